@@ -1,0 +1,1 @@
+//! Algebra of the whole numbers, for proofs: nothing here runs.

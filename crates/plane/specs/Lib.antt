@@ -1,0 +1,10 @@
+pub mod Points
+pub mod PointOf
+pub mod Edges
+pub mod Fractions
+pub mod Rounding
+pub mod Rules
+pub mod Laws
+pub mod Models
+pub mod Answers
+pub mod Worked
