@@ -1,0 +1,14 @@
+pub mod Counts
+pub mod Booleans
+pub mod BooleanKind
+pub mod Parities
+pub mod ParityKind
+pub mod Orders
+pub mod OrderLaws
+pub mod Segments
+pub mod SegmentKind
+pub mod Marks
+pub mod MarkKind
+pub mod Marked
+pub mod Balance
+pub mod Laws

@@ -1,0 +1,5 @@
+pub mod Records
+pub mod Listings
+pub mod Laws
+pub mod Contents
+pub mod Tables
