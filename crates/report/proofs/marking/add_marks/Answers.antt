@@ -1,0 +1,6 @@
+use borrow.Author.Needs.{needs}
+use Rattle.std.proofs.shelf.Lists.{append-assoc}
+use Rattle.report.proofs.marking.add_marks.Needs as need
+
+pub returns-in-Continue-push-3 : need.returns-in-Continue-push-3
+returns-in-Continue-push-3 c = search (needs, append-assoc)

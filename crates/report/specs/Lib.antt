@@ -1,0 +1,4 @@
+pub mod Touches
+pub mod Marks
+pub mod Summaries
+pub mod Verdicts
