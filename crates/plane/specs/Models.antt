@@ -15,6 +15,7 @@ use Rattle.plane.specs.Fractions.{Frac, On, Within, Is-end, Touch, Only, Share
 use Rattle.plane.specs.Rules.{Marking, on-both, on-target, on-other}
 use Rattle.plane.specs.PointOf.{point-of}
 use Rattle.plane.specs.declared.int_point.IntPoint.{IntPoint}
+use Rattle.plane.specs.declared.plain_point.PlainPoint.{PlainPoint}
 use Rattle.plane.specs.declared.x_segment.XSegment.{XSegment}
 use Rattle.plane.specs.declared.cross_solver.EdgeMarks.{EdgeMarks}
 use Rattle.plane.specs.declared.cross_solver.EdgeMarks.the-variants.{Zero, One, Two}
@@ -22,6 +23,9 @@ use Rattle.plane.specs.declared.touch_type.TouchType.{TouchType}
 use Rattle.plane.specs.declared.touch_type.TouchType.the-variants as kind
 use Rattle.plane.specs.declared.fault.Fault.{Fault}
 use Rattle.plane.specs.declared.fault.Fault.the-variants.{EndsEqual, CoordinateOutside, CountEmpty, BudgetOutside, NoSuchEdge, LineForm, EdgeOutsideBox, SheetFull, FinderFull, MarksFull, PiecesFull, Walking, AnnouncedReached}
+
+abbrev pub plain-point : PlainPoint → Point
+plain-point p = record { x = p .x; y = p .y }
 
 abbrev pub edge-of : XSegment → Edge
 edge-of s = record { a = point-of (s .a); b = point-of (s .b) }

@@ -5,6 +5,7 @@ pub mod fault;
 pub mod int_point;
 mod meeting;
 mod offset;
+pub mod plain_point;
 mod rounding;
 pub mod snap_radius;
 pub mod touch_type;
