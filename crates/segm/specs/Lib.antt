@@ -12,3 +12,7 @@ pub mod MarkKind
 pub mod Marked
 pub mod Balance
 pub mod Laws
+pub mod Corners
+pub mod CornerKind
+pub mod Held
+pub mod Open
