@@ -13,12 +13,12 @@ use Rattle.std.proofs.shelf.Tests.{and-from, and-left, and-right, and-parts, ca
 use Rattle.plane.specs.Points.{Point, Ranged, before?}
 use Rattle.plane.specs.Edges.{Edge}
 use Rattle.plane.specs.Models.{edge-of, edge-between}
-use Rattle.plane.specs.declared.x_segment.XSegment.{XSegment}
+use Rattle.drawing.specs.declared.drawn_edge.DrawnEdge.{DrawnEdge}
 use Rattle.drawing.specs.declared.number.NumberFault.the-variants.{Form}
 use Rattle.drawing.specs.declared.reason.Reason.the-variants.{HeadForm, CoordinateOutside, EndsEqual}
 use Rattle.drawing.specs.Numbers.{unsigned-of}
 use Rattle.drawing.specs.Fields.{fields}
-use Rattle.drawing.specs.Lines.{exponent-of, head-of, two-points, ranged?, apart?, edge-from}
+use Rattle.drawing.specs.Lines.{exponent-of, head-of, two-points, ranged?, apart?, drawn-as, edge-from}
 use Rattle.drawing.proofs.Fields.{fields-some, rejoined, rejoined-fields}
 
 -- the letter is the second and last field
@@ -66,16 +66,16 @@ ends-equal p q in-p in-q e =
     cond-true _ _ _ (and-from _ _ (ranged-is p in-p) (ranged-is q in-q))
     ∙ cond-false _ _ _ (ap (apart? p) (sym e) ∙ or-from _ _ (not-before-itself p) (not-before-itself p))
 
-pub edge-made : (p q : Point) (s : XSegment) → Ranged p → Ranged q → edge-of s ≡ edge-between p q → edge-from p q ≡ Ok (edge-of s)
-edge-made p q s in-p in-q e =
+pub edge-made : (p q : Point) (d : DrawnEdge) → Ranged p → Ranged q → edge-of (d .edge) ≡ edge-between p q → d .«is_turned» ≡ before? q p → edge-from p q ≡ Ok (drawn-as (d .edge) (d .«is_turned»))
+edge-made p q d in-p in-q e turned =
     cond-true _ _ _ (and-from _ _ (ranged-is p in-p) (ranged-is q in-q))
     ∙ cond-true _ _ _ apart
-    ∙ ap (λ x. Ok x) (sym e)
+    ∙ sym (λ i. Ok (record { edge = e i; turned = turned i }))
   where
     apart : apart? p q ≡ true
     apart =
         ⊎-elim (λ is. or-right _ _ is)
         (λ none.
-        let whole : edge-of s ≡ record { a = p; b = q } = e ∙ cond-false _ _ _ none in
-        or-left _ _ (ap (λ (x : Edge). before? (x .a) (x .b)) (sym whole) ∙ s .ordered))
+        let whole : edge-of (d .edge) ≡ record { a = p; b = q } = e ∙ cond-false _ _ _ none in
+        or-left _ _ (ap (λ (x : Edge). before? (x .a) (x .b)) (sym whole) ∙ d .edge .ordered))
         (cases-bool (before? q p))

@@ -2,7 +2,7 @@
 use mathlib.Core.Path.{_≡_, refl, sym, ap, subst, _∙_}
 use mathlib.Core.Bool.{true, false, _&&_}
 use mathlib.Core.List.{List, [], _∷_, _++_}
-use mathlib.Core.Logic.{_≢_, _⊎_, ⊎-elim}
+use mathlib.Core.Logic.{⊎-elim}
 use Prim.Native.Nat.{ℕ, zero, suc, _+_, _^_, _<_, _≤_}
 use native.Mathlib.Omega.{arith}
 use lib.IntN.{ℤ, pos, negsuc, natAbs}
@@ -19,17 +19,15 @@ use Rattle.std.proofs.shelf.Numerals.{not-in-digits}
 use Rattle.std.proofs.shelf.Signed.{ints}
 use Rattle.std.proofs.shelf.Tests.{and-from, and-parts, both-ways, cases-bool, cond-true, cond-false, eq-eqb, false≢true, leb-true, lt-ltb, ne-eqb, or-from, or-parts}
 use Rattle.plane.specs.Points.{Point, Ranged, before?}
-use Rattle.plane.specs.Edges.{Edge}
-use Rattle.plane.specs.Models.{edge-of, edge-between}
-use Rattle.plane.specs.declared.x_segment.XSegment.{XSegment}
+use Rattle.drawing.specs.declared.drawn_edge.DrawnEdge.{DrawnEdge}
 use Rattle.drawing.specs.declared.number.NumberFault.{NumberFault}
 use Rattle.drawing.specs.declared.number.NumberFault.the-variants.{Form, TooLarge}
 use Rattle.drawing.specs.declared.reason.Reason.{Reason}
 use Rattle.drawing.specs.declared.reason.Reason.the-variants.{HeadForm}
 use Rattle.drawing.specs.Numbers.{value, unsigned-of, signed-of, signed-value, Only-decimal, Only-signed}
 use Rattle.drawing.specs.Fields.{onto, fields}
-use Rattle.drawing.specs.Lines.{parts, exponent-of, head-of, head-line, together, two-points, ranged?, apart?, edge-from, point, edge-with, edge-line, read-as}
-use Rattle.drawing.specs.Texts.{head-text, Ends, Sound, edge-text, edge-with-ends, Edge-written, Only-head, Only-edge}
+use Rattle.drawing.specs.Lines.{parts, exponent-of, head-of, head-line, together, two-points, ranged?, apart?, Drawn, drawn-between, drawn-as, edge-from, point, edge-with, edge-line, read-as}
+use Rattle.drawing.specs.Texts.{head-text, Ends, Sound, edge-text, drawn-with-ends, Edge-written, Only-head, Only-edge}
 use Rattle.drawing.proofs.Fields.{Free, fields-one, rejoined, rejoined-fields}
 use Rattle.drawing.proofs.Lines.{ranged-is, not-before-itself}
 use Rattle.drawing.proofs.Readings.{own, numeral-decimal, signed-reads, unsigned-only, signed-only}
@@ -104,7 +102,7 @@ same-from-apart p q none =
     λ i. record { x = across i; y = height i }
 
 -- the line of two different points within range says their edge
-pub edge-read : (c : Ends) → Sound c → edge-line (edge-text c) ≡ Ok (edge-with-ends c)
+pub edge-read : (c : Ends) → Sound c → edge-line (edge-text c) ≡ Ok (drawn-with-ends c)
 edge-read c sound =
     let in-p = sound .first in
     let in-q = sound .second in
@@ -152,7 +150,7 @@ ranged-was : (p : Point) → ranged? p ≡ true → Ranged p
 ranged-was p is = let both = and-parts _ _ is in record { wide = leb-true _ _ (both .0); high = leb-true _ _ (both .1) }
 
 -- an edge that is made of two points
-from-was : (p q : Point) (e : Edge) → edge-from p q ≡ Ok e → Sound (record { p = p; q = q }) × (e ≡ edge-between p q)
+from-was : (p q : Point) (e : Drawn) → edge-from p q ≡ Ok e → Sound (record { p = p; q = q }) × (e ≡ drawn-between p q)
 from-was p q e is =
     ⊎-elim
     (λ ranged. ⊎-elim
@@ -172,7 +170,7 @@ from-was p q e is =
     (cases-bool (ranged? p && ranged? q))
 
 -- a line that says an edge is the text of two such points
-pub edge-was : (line : List ℕ) (e : Edge) → edge-line line ≡ Ok e → Edge-written line e
+pub edge-was : (line : List ℕ) (e : Drawn) → edge-line line ≡ Ok e → Edge-written line e
 edge-was line e is = by (two-points (parts line)) refl is
   where
     by : (r : Result ((ℤ × ℤ) × (ℤ × ℤ)) NumberFault) → two-points (parts line) ≡ r → edge-with r ≡ Ok e → Edge-written line e
@@ -211,6 +209,6 @@ pub head-only : (line : List ℕ) (r : Result ℕ Reason) → r ≡ head-line li
 head-only line (Ok e) said = head-was line e (sym said)
 head-only line (Err f) said = λ e fits is. err-is-not-ok f e (said ∙ ap head-line is ∙ head-read e fits)
 
-pub edge-only : (line : List ℕ) (r : Result XSegment Reason) → read-as r ≡ edge-line line → Only-edge line r
-edge-only line (Ok s) said = edge-was line (edge-of s) (sym said)
-edge-only line (Err f) said = λ c sound is. err-is-not-ok f (edge-with-ends c) (said ∙ ap edge-line is ∙ edge-read c sound)
+pub edge-only : (line : List ℕ) (r : Result DrawnEdge Reason) → read-as r ≡ edge-line line → Only-edge line r
+edge-only line (Ok d) said = edge-was line (drawn-as (d .edge) (d .«is_turned»)) (sym said)
+edge-only line (Err f) said = λ c sound is. err-is-not-ok f (drawn-with-ends c) (said ∙ ap edge-line is ∙ edge-read c sound)

@@ -11,6 +11,7 @@ use Rattle.plane.specs.Points.{Point, before?}
 use Rattle.plane.specs.Edges.{Edge}
 use Rattle.plane.specs.Models.{edge-of, edge-between}
 use Rattle.plane.specs.declared.x_segment.XSegment.{XSegment}
+use Rattle.drawing.specs.declared.drawn_edge.DrawnEdge.{DrawnEdge}
 use Rattle.drawing.specs.declared.number.NumberFault.{NumberFault}
 use Rattle.drawing.specs.declared.number.NumberFault.the-variants.{Form, TooLarge}
 use Rattle.drawing.specs.declared.reason.Reason.{Reason}
@@ -65,23 +66,35 @@ ranged? p = leb (natAbs (p .x)) 524288 && leb (natAbs (p .y)) 524288
 abbrev pub apart? : Point → Point → Bool
 apart? p q = before? p q || before? q p
 
--- the edge of two points, its ends put in order
-abbrev pub edge-from : Point → Point → Result Edge Reason
+-- an edge, and whether it is turned: its line gives the second end first
+pub record Drawn : Type 0 where
+  pub edge : Edge
+  pub turned : Bool
+
+-- from p to q, the ends put in order
+abbrev pub drawn-between : Point → Point → Drawn
+drawn-between p q = record { edge = edge-between p q; turned = before? q p }
+
+-- what two points draw
+abbrev pub edge-from : Point → Point → Result Drawn Reason
 edge-from p q =
     cond (ranged? p && ranged? q)
-    (cond (apart? p q) (Ok (edge-between p q)) (Err EndsEqual))
+    (cond (apart? p q) (Ok (drawn-between p q)) (Err EndsEqual))
     (Err CoordinateOutside)
 
 abbrev pub point : ℤ × ℤ → Point
 point c = record { x = c .0; y = c .1 }
 
-abbrev pub edge-with : Result ((ℤ × ℤ) × (ℤ × ℤ)) NumberFault → Result Edge Reason
+abbrev pub edge-with : Result ((ℤ × ℤ) × (ℤ × ℤ)) NumberFault → Result Drawn Reason
 edge-with (Ok c) = edge-from (point (c .0)) (point (c .1))
 edge-with (Err f) = Err (reason-of f EdgeForm)
 
-abbrev pub edge-line : List ℕ → Result Edge Reason
+abbrev pub edge-line : List ℕ → Result Drawn Reason
 edge-line line = edge-with (two-points (parts line))
 
-abbrev pub read-as : Result XSegment Reason → Result Edge Reason
-read-as (Ok s) = Ok (edge-of s)
+abbrev pub drawn-as : XSegment → Bool → Drawn
+drawn-as s t = record { edge = edge-of s; turned = t }
+
+abbrev pub read-as : Result DrawnEdge Reason → Result Drawn Reason
+read-as (Ok d) = Ok (drawn-as (d .edge) (d .«is_turned»))
 read-as (Err f) = Err f

@@ -6,17 +6,16 @@ use Prim.Native.Nat.{ℕ, _^_, _≤_, _<_}
 use lib.ListN.{length}
 use Rattle.std.specs.declared.result.Result.{Result}
 use Rattle.std.specs.declared.result.Result.the-variants.{Ok, Err}
-use Rattle.std.specs.Of.Vec.{vec-items}
 use Rattle.std.specs.Written.{decimal, signed}
 use Rattle.std.specs.shelf.Lists.{All, joined}
 use Rattle.plane.specs.Points.{Point, Ranged}
-use Rattle.plane.specs.Edges.{Edge}
-use Rattle.plane.specs.Models.{edge-of, edge-between}
-use Rattle.plane.specs.declared.x_segment.XSegment.{XSegment}
 use Rattle.drawing.specs.declared.drawing.Drawing.{Drawing}
+use Rattle.drawing.specs.declared.drawn_edge.DrawnEdge.{DrawnEdge}
 use Rattle.drawing.specs.declared.fault.DrawingFault.{DrawingFault}
 use Rattle.drawing.specs.declared.fault.DrawingFault.the-variants.{Line, Memory}
 use Rattle.drawing.specs.declared.reason.Reason.{Reason}
+use Rattle.drawing.specs.Lines.{Drawn, drawn-between, drawn-as}
+use Rattle.drawing.specs.Drawings.{drawn-in}
 
 -- the exponent, a tab and the letter `P`
 abbrev pub head-text : ℕ → List ℕ
@@ -37,8 +36,9 @@ pub record Sound (c : Ends) : Type 0 where
 abbrev pub edge-text : Ends → List ℕ
 edge-text c = signed (c .p .x) ++ (9 ∷ (signed (c .p .y) ++ (9 ∷ (signed (c .q .x) ++ (9 ∷ signed (c .q .y))))))
 
-abbrev pub edge-with-ends : Ends → Edge
-edge-with-ends c = edge-between (c .p) (c .q)
+-- the edge from p to q
+abbrev pub drawn-with-ends : Ends → Drawn
+drawn-with-ends c = drawn-between (c .p) (c .q)
 
 -- a line for the exponent and one for each edge, each ended by LF
 abbrev pub drawing-text : ℕ → List Ends → List ℕ
@@ -48,26 +48,26 @@ abbrev pub Only-head : List ℕ → Result ℕ Reason → Type 0
 Only-head line (Ok e) = line ≡ head-text e
 Only-head line (Err f) = (e : ℕ) → e < 2 ^ 32 → line ≢ head-text e
 
--- s is the edge between two points
-pub record Edge-written (line : List ℕ) (e : Edge) : Type 0 where
+-- e is what the line of two points draws
+pub record Edge-written (line : List ℕ) (e : Drawn) : Type 0 where
   pub ends : Ends
   pub sound : Sound ends
   pub text : line ≡ edge-text ends
-  pub edge : e ≡ edge-with-ends ends
+  pub edge : e ≡ drawn-with-ends ends
 
-abbrev pub Only-edge : List ℕ → Result XSegment Reason → Type 0
-Only-edge line (Ok s) = Edge-written line (edge-of s)
+abbrev pub Only-edge : List ℕ → Result DrawnEdge Reason → Type 0
+Only-edge line (Ok d) = Edge-written line (drawn-as (d .edge) (d .«is_turned»))
 Only-edge line (Err f) = (c : Ends) → Sound c → line ≢ edge-text c
 
 -- the k-th edge is that of the k-th line after the first
-pub record Drawing-written (text : List ℕ) (e : ℕ) (es : List Edge) : Type 0 where
+pub record Drawing-written (text : List ℕ) (e : ℕ) (es : List Drawn) : Type 0 where
   pub ends : List Ends
   pub sound : All Sound ends
   pub few : length ends ≤ 4096
   pub whole : text ≡ drawing-text e ends
-  pub edges : es ≡ map edge-with-ends ends
+  pub edges : es ≡ map drawn-with-ends ends
 
 abbrev pub Only-drawing : List ℕ → Result Drawing DrawingFault → Type 0
-Only-drawing text (Ok d) = Drawing-written text (d .exponent) (map edge-of (vec-items (d .edges)))
+Only-drawing text (Ok d) = Drawing-written text (d .exponent) (drawn-in d)
 Only-drawing text (Err (Line n f)) = (e : ℕ) (cs : List Ends) → e < 2 ^ 32 → All Sound cs → length cs ≤ 4096 → text ≢ drawing-text e cs
 Only-drawing text (Err Memory) = Unit {0}

@@ -1,4 +1,5 @@
-//! A drawing: its edges, of which there are few by its type, and its snap exponent.
+//! A drawing: its edges, of which there are few by its type, whether each is turned, and its snap exponent.
+ghost use mathlib.Core.Path.{_≡_};
 ghost use Prim.Native.Nat.{_≤_};
 ghost use Rattle.std.specs.Of.Vec.{vec-len};
 use plane::x_segment::XSegment;
@@ -10,5 +11,8 @@ pub const MOST_EDGES: usize = 4096;
 pub struct Drawing {
     pub exponent: u32,
     pub edges: Vec<XSegment>,
+    /// Whether the first point of the line of an edge comes after its second.
+    pub turned: Vec<bool>,
     ghost few: { vec-len edges ≤ 4096 },
+    ghost paired: { vec-len turned ≡ vec-len edges },
 }

@@ -2,6 +2,7 @@
 ghost use mathlib.Core.Path.{_≡_};
 ghost use Rattle.drawing.specs.Texts.{Only-edge, Only-head};
 ghost use Rattle.drawing.specs.Lines.{edge-line, head-line, parts, read-as, reason-of, together, two-points};
+use crate::drawn_edge::DrawnEdge;
 use crate::field::cut_at;
 use crate::number::NumberFault;
 use crate::number::read_signed;
@@ -30,8 +31,8 @@ pub fn read_head(line: &[u8]) -> Result<u32, Reason>
     }
 }
 
-/// The edge of a line, its ends in either order.
-pub fn read_edge(line: &[u8]) -> Result<XSegment, Reason>
+/// The edge of a line, its ends in either order, and whether they are exchanged.
+pub fn read_edge(line: &[u8]) -> Result<DrawnEdge, Reason>
     ensures said { λ r. ⌜ read-as r ≡ edge-line (now (line .entry)) ⌝ }
     ensures written { λ r. ⌜ Only-edge (now (line .entry)) r ⌝ }
 {
@@ -46,7 +47,10 @@ pub fn read_edge(line: &[u8]) -> Result<XSegment, Reason>
         return Err(Reason::CoordinateOutside);
     };
     match XSegment::new(p, q) {
-        Ok(edge) => Ok(edge),
+        Ok(edge) => Ok(DrawnEdge {
+            edge,
+            is_turned: q.is_before(p),
+        }),
         Err(_) => Err(Reason::EndsEqual),
     }
 }

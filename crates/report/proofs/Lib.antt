@@ -1,2 +1,3 @@
-pub mod Listing
-pub mod Rows
+pub mod Alone
+pub mod Coming
+pub mod Directing

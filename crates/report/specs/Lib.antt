@@ -1,4 +1,5 @@
 pub mod Touches
 pub mod Marks
+pub mod Directed
 pub mod Summaries
 pub mod Verdicts

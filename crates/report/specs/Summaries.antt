@@ -1,4 +1,4 @@
--- The words of a summary.
+-- The words of the last two lines of a report.
 use mathlib.Core.Bool.{cond}
 use mathlib.Core.List.{List, _++_}
 use Prim.Native.Nat.{ℕ}
@@ -10,6 +10,10 @@ use Rattle.report.specs.declared.summary.Summary.{Summary}
 -- a number and its noun, for one and for any other number
 abbrev pub counted : ℕ → List ℕ → List ℕ → List ℕ
 counted n one more = decimal n ++ (codes " " ++ cond (eqb n 1) one more)
+
+-- how many points are open
+abbrev pub open-words : ℕ → List ℕ
+open-words n = counted n (codes "open end") (codes "open ends")
 
 abbrev pub summed : Summary → List ℕ
 summed s =

@@ -1,22 +1,19 @@
-//! A mark: a point on the edge of a number.
+//! The line of a mark: the number of its edge, and its point.
 ghost use mathlib.Core.List.{_++_};
 ghost use lib.Chars.{codes};
 ghost use Rattle.std.specs.declared.option.Option.the-variants.{Some};
 ghost use Rattle.std.specs.Written.{decimal, signed};
+use segm::line_mark::LineMark;
 use std::fmt;
 
-/// Marks are ordered by edge, then by point.
-#[derive(Clone, Copy, PartialEq, Eq, PartialOrd, Ord)]
-pub struct Mark {
-    pub edge: usize,
-    pub x: i32,
-    pub y: i32,
-}
+#[derive(Clone, Copy)]
+pub struct MarkLine(pub LineMark);
 
-pub impl fmt::Display for Mark as MarkDisplay {
-    ghost shown = { λ m. Some (codes "M\t" ++ (decimal (m .edge) ++ (codes "\t" ++ (signed (m .x) ++ (codes "\t" ++ signed (m .y)))))) };
+pub impl fmt::Display for MarkLine as MarkLineDisplay {
+    ghost shown = { λ m. Some (codes "M\t" ++ (decimal (m .0 .index) ++ (codes "\t" ++ (signed (m .0 .point .x) ++ (codes "\t" ++ signed (m .0 .point .y)))))) };
 
     fn fmt<W: fmt::Write>(&self, f: &mut fmt::Formatter<W>) -> fmt::Result {
-        write!(f, "M\t{}\t{}\t{}", self.edge, self.x, self.y)
+        let mark = self.0;
+        write!(f, "M\t{}\t{}\t{}", mark.index, mark.point.x, mark.point.y)
     }
 }

@@ -5,8 +5,11 @@ ghost use lib.ListN.{length};
 ghost use Rattle.std.specs.Vec.{made};
 ghost use Rattle.drawing.specs.Drawings.{drawing-of};
 ghost use Rattle.report.specs.Verdicts.{verdict-of};
-use crate::mark::MarkDisplay;
+use crate::mark::MarkLine;
+use crate::mark::MarkLineDisplay;
 use crate::marking::mark_drawing;
+use crate::open_ends::OpenEnds;
+use crate::open_ends::OpenEndsDisplay;
 use crate::summary::Summary;
 use crate::summary::SummaryDisplay;
 use crate::touch::Touch;
@@ -50,8 +53,11 @@ fn tell<W: Write>(heap: Global, drawing: &Drawing, out: &mut W) -> io::Result<()
     let touches = tell_touches(drawing.edges.as_slice(), out)?;
     let marking = mark_drawing(heap, drawing)?;
     for mark in marking.marks.iter() {
-        writeln!(out, "{mark}")?;
+        let line = MarkLine(*mark);
+        writeln!(out, "{line}")?;
     }
+    let ends = OpenEnds::of(heap, drawing)?;
+    writeln!(out, "{ends}")?;
     let summary = Summary {
         edges,
         pairs: pairs_of(edges),

@@ -1,4 +1,4 @@
-//! Reads a drawing from the standard input, and prints the pairs that touch, the marks and a line that sums them up.
+//! Reads a drawing from the standard input, and prints the pairs that touch, the marks, the open ends and a line that sums them up.
 use report::teller::Verdict;
 use report::teller::report;
 use std::io;

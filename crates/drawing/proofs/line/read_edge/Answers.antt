@@ -7,6 +7,7 @@ use Rattle.std.proofs.shelf.Signed.{toZ-ofZ}
 use Rattle.plane.specs.Points.{Ranged}
 use Rattle.plane.specs.PointOf.{point-of}
 use Rattle.plane.specs.declared.int_point.IntPoint.{IntPoint}
+use Rattle.drawing.specs.declared.drawn_edge.DrawnEdge.{DrawnEdge}
 use Rattle.drawing.specs.Lines.{edge-with, edge-from, edge-line, point}
 use Rattle.drawing.specs.declared.reason.Reason.the-variants.{CoordinateOutside, EndsEqual}
 use Rattle.drawing.proofs.Texts.{edge-only}
@@ -53,10 +54,11 @@ pub returns-in-Ok-new-3 : need.returns-in-Ok-new-3
 returns-in-Ok-new-3 c =
     let p = c .in-Ok-new .p in
     let q = c .in-Ok-new-2 .q in
+    let drawn : DrawnEdge = record { edge = c .in-Ok-new-3 .edge; «is_turned» = c .is-before .result } in
     let said =
-    sym (edge-made (point-of p) (point-of q) (c .in-Ok-new-3 .edge) (ranged p) (ranged q) (c .in-Ok-new-3 .ensures tt))
+    sym (edge-made (point-of p) (point-of q) drawn (ranged p) (ranged q) (c .in-Ok-new-3 .ensures tt) (c .is-before .ensures))
     ∙ said-of (need.at·returns-in-Ok-new-3 c .After-new-3) in
-    record { said = said; written = edge-only (c .args .line .now) (Ok (c .in-Ok-new-3 .edge)) said }
+    record { said = said; written = edge-only (c .args .line .now) (Ok drawn) said }
 
 pub returns-in-Err-new : need.returns-in-Err-new
 returns-in-Err-new c =
