@@ -26,7 +26,7 @@ const ON_ONE_EDGE: usize = 64;
 /// More would not be measured in a moment.
 const MOST: usize = 1_000_000;
 
-pub fn marks_job(rt: &LibcRuntime, mut words: Args) -> Result<(), AnyError> {
+pub(crate) fn marks_job(rt: &LibcRuntime, mut words: Args) -> Result<(), AnyError> {
     let (Some(course), Some(count)) = (words.next(), words.next()) else {
         return Err("marks takes ascending, descending or shuffled, and a number".into());
     };

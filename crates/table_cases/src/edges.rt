@@ -12,7 +12,7 @@ use std::error::AnyError;
 use table::keyed::Keyed;
 use table::ordered_table::OrderedTable;
 
-pub fn edge_cases(rt: &LibcRuntime) -> Result<(), AnyError> {
+pub(crate) fn edge_cases(rt: &LibcRuntime) -> Result<(), AnyError> {
     println!(rt, "edges of subject and clip, two places")?;
     let mut places = [Segment::blank(), Segment::blank()];
     let mut table = OrderedTable::open(&mut places, 2);

@@ -7,7 +7,7 @@ use std::error::AnyError;
 use table::keyed::Keyed;
 use table::ordered_table::OrderedTable;
 
-pub fn mark_cases(rt: &LibcRuntime) -> Result<(), AnyError> {
+pub(crate) fn mark_cases(rt: &LibcRuntime) -> Result<(), AnyError> {
     println!(rt, "marks, no place")?;
     few(rt, &mut [])?;
     println!(rt, "marks, one place")?;

@@ -1,0 +1,17 @@
+pub mod Logs
+pub mod Columns
+pub mod Members
+pub mod Holds
+pub mod Floors
+pub mod Finds
+pub mod Pairs
+pub mod Walks
+pub mod Sizes
+pub mod Links
+pub mod Cursors
+pub mod Laid
+pub mod Steps
+pub mod Facts
+pub mod Placing
+pub mod Sounds
+pub mod Worked
