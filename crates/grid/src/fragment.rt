@@ -1,4 +1,5 @@
 //! A fragment: an edge in a column, with its rectangle there.
+ghost use mathlib.Core.Path.{_≡_};
 use finder::int_rect::IntRect;
 use plane::int_point::IntPoint;
 use plane::x_segment::XSegment;
@@ -16,7 +17,9 @@ pub struct Fragment {
 
 impl Fragment {
     /// A fragment to fill a table with: what it holds does not matter.
-    pub fn blank() -> Fragment {
+    pub fn blank() -> Fragment
+        ensures { λ r. ⌜ (r .index ≡ 0) × (r .column ≡ 0) × (r .next ≡ 0) ⌝ }
+    {
         Fragment {
             index: 0,
             x_segment: XSegment {

@@ -41,7 +41,7 @@ impl GridLayout {
     }
 
     /// The column of an x that is not left of the box.
-    pub fn index(self, x: i32) -> usize
+    pub(crate) fn index(self, x: i32) -> usize
         requires { ⌜ self .«min_x» ≤ℤ x ⌝ }
         ensures { λ r. ⌜ r ≡ column (layout-of self) x ⌝ }
     {
@@ -49,7 +49,7 @@ impl GridLayout {
     }
 
     /// The border where a column begins.
-    pub fn pos(self, index: usize) -> i64
+    pub(crate) fn pos(self, index: usize) -> i64
         requires { ⌜ index ≤ 128 ⌝ }
         ensures { λ r. ⌜ r ≡ border (layout-of self) index ⌝ }
     {
