@@ -9,7 +9,7 @@ use Rattle.algebra.proofs.Laws.{mul_neg, neg_mul, mul_add, add_mul}
 use Rattle.algebra.proofs.Ring.{Ex, v, k, ◌⊕◌, ◌⊖◌, ◌⊗◌, ⊝, ring}
 
 pub mul_pos : (a b : ℤ) → pos 0 <ℤ a → pos 0 <ℤ b → pos 0 <ℤ (a *ℤ b)
-mul_pos (pos m) (pos n) h g = let p : 0 < m = omega (arith, ints) in let q : 0 < n = omega (arith, ints) in omega (arith, ints, NatL.mul_pos p q)
+mul_pos (pos m) (pos n) h g = let p : 0 < m = omega (arith, ints) in let q : 0 < n = omega (arith, ints) in omega (arith, ints, NatL.mul-pos p q)
 mul_pos (pos m) (negsuc n) h g = omega (arith, ints)
 mul_pos (negsuc m) b h g = omega (arith, ints)
 

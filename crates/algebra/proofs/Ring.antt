@@ -238,7 +238,7 @@ abbrev pub Says : List ℤ → Eqn → Type 0
 Says ρ q = value ρ q.lhs ≡ value ρ q.rhs
 
 abbrev pub Checks : Eqn → Type 0
-Checks q = T (vanishes (q.lhs ⊖ q).rhs)
+Checks q = T (vanishes (q.lhs ⊖ q.rhs))
 
 pub says : (ρ : List ℤ) (q : Eqn) → Checks q → Says ρ q
 says ρ q t = ring ρ q.lhs q.rhs t

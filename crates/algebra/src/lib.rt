@@ -1,1 +1,2 @@
 //! Algebra of the whole numbers, for proofs: nothing here runs.
+#![tactic(auto)]

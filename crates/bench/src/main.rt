@@ -1,4 +1,6 @@
 //! Measures. The first word names the job; counts go to the standard output, times to the standard error.
+#![tactic(auto)]
+
 mod drawing_input;
 mod marks;
 mod run;

@@ -1,4 +1,6 @@
 //! Drawings as text: numbers, lines and whole drawings, read exactly or refused with a reason.
+#![tactic(auto)]
+
 pub mod drawing;
 pub mod drawn_edge;
 pub mod fault;

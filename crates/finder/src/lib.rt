@@ -1,4 +1,6 @@
 //! Finders: which pairs of edges are worth a look.
+#![tactic(auto)]
+
 pub mod all_pairs;
 pub mod checking;
 pub mod edge_record;

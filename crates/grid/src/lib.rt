@@ -1,4 +1,6 @@
 //! The column grid, a finder that looks at edges column by column.
+#![tactic(auto)]
+
 pub mod cursor;
 pub mod fragment;
 pub mod fragment_buffer;

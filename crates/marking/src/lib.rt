@@ -1,2 +1,4 @@
 //! The marks of a list of edges, gathered by a finder.
+#![tactic(auto)]
+
 pub mod gathering;

@@ -1,4 +1,6 @@
 //! Points, edges and what their crossings mark, proved from exact geometry.
+#![tactic(auto)]
+
 pub mod cross_solver;
 pub mod direction;
 pub mod fault;

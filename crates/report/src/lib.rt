@@ -1,4 +1,6 @@
 //! From the text of a drawing to its report: the pairs that touch, the marks, the open ends, and a line that sums them up.
+#![tactic(auto)]
+
 mod counted;
 pub mod mark;
 pub mod marking;

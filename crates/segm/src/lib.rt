@@ -1,4 +1,6 @@
 //! Edges with counts: kinds of counts, segments and marks, and their places in an ordered table.
+#![tactic(auto)]
+
 pub mod boolean;
 pub mod boolean_count;
 pub mod corner;

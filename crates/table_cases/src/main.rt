@@ -1,4 +1,6 @@
 //! The ordered table at work on marks and on edges, with tables of length 0, 1, exactly full, and 4096.
+#![tactic(auto)]
+
 mod edges;
 mod marks;
 

@@ -1,4 +1,6 @@
 //! Reads a drawing from the standard input, and prints the pairs that touch, the marks, the open ends and a line that sums them up.
+#![tactic(auto)]
+
 use report::teller::{Verdict, report};
 use std::io;
 use std::io::{BufWriter, Read, Write};

@@ -1,4 +1,6 @@
 //! Reads many drawings, each after a line `--- name`, and prints that line and the report of each.
+#![tactic(auto)]
+
 use report::teller::report;
 use std::alloc::Global;
 use std::io;
