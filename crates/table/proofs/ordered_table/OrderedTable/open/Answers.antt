@@ -9,9 +9,9 @@ pub returns : goal.returns
 returns g c =
     let K = g.R.Keyed.kind in
     let n = length c.args.places.now in
-    let e : record { places = c.blank-all.new.table; used = 0; room = c.min-room.result } ≡ unused K n (min c.args.room n) = λ i. record {
-      places = c.blank-all.ensures i;
+    let e : record { places = c.blank_all.new.table; used = 0; room = c.min-room.result } ≡ unused K n (min c.args.room n) = λ i. record {
+      places = c.blank_all.ensures i;
       used = 0;
-      room = (c.min-room.ensures ∙ ap (λ (n : ℕ). min c.args.room n) c.blank-all.auto.table) i;
+      room = (c.min-room.ensures ∙ ap (λ (n : ℕ). min c.args.room n) c.blank_all.auto.table) i;
     } in
     record { content = e; sound = sound_is_unused K _ n (min c.args.room n) (omega arith) e; laws = listing_laws K }
