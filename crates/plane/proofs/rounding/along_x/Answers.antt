@@ -11,11 +11,11 @@ returns-then-offset-eq0 c =
     let fy = off64 c.args.offset.y c.args.offset.high in
     let fn = c.ranges.n in
     let fd = c.ranges.d in
-    let fr : SFits w64 c.times-run.result = record { sfits = c.times-run.type-inv } in
-    let fq : SFits w64 c.cut-quotient.result = record { sfits = c.cut-quotient.type-inv } in
+    let fr : SFits w64 c.times-run.result = record { sfits = c.times-run.type_inv } in
+    let fq : SFits w64 c.cut_quotient.result = record { sfits = c.cut_quotient.type_inv } in
     let r : c.times-run.result ≡ c.args.offset.x *ℤ c.args.n = simp to_z-of_z at c.times-run.ensures.value in
-    let q : c.cut-quotient.result ≡ cut c.times-run.result c.args.d = simp to_z-of_z at c.cut-quotient.ensures in
-    to_z-of_z w64 c.cut-quotient.result fq ∙ q ∙ ap (λ (z : ℤ). cut z c.args.d) r
+    let q : c.cut_quotient.result ≡ cut c.times-run.result c.args.d = simp to_z-of_z at c.cut_quotient.ensures in
+    to_z-of_z w64 c.cut_quotient.result fq ∙ q ∙ ap (λ (z : ℤ). cut z c.args.d) r
     ∙ sym (ap (λ (b : Bool). cond b (cut (c.args.offset.x *ℤ c.args.n) c.args.d) (nearest (c.args.offset.x *ℤ c.args.n) c.args.d)) (zero_bits c.args.offset.y c.if-offset-eq0.true fy))
 
 pub returns-else-offset-eq0 : goal.returns-else-offset-eq0
@@ -23,9 +23,9 @@ returns-else-offset-eq0 c =
     let fx = off64 c.args.offset.x c.args.offset.wide in
     let fn = c.ranges.n in
     let fd = c.ranges.d in
-    let fr : SFits w64 c.times-run.result = record { sfits = c.times-run.type-inv } in
-    let fq : SFits w64 c.nearest-quotient.result = record { sfits = c.nearest-quotient.type-inv } in
+    let fr : SFits w64 c.times-run.result = record { sfits = c.times-run.type_inv } in
+    let fq : SFits w64 c.nearest_quotient.result = record { sfits = c.nearest_quotient.type_inv } in
     let r : c.times-run.result ≡ c.args.offset.x *ℤ c.args.n = simp to_z-of_z at c.times-run.ensures.value in
-    let q : c.nearest-quotient.result ≡ nearest c.times-run.result c.args.d = simp to_z-of_z at c.nearest-quotient.ensures in
-    to_z-of_z w64 c.nearest-quotient.result fq ∙ q ∙ ap (λ (z : ℤ). nearest z c.args.d) r
+    let q : c.nearest_quotient.result ≡ nearest c.times-run.result c.args.d = simp to_z-of_z at c.nearest_quotient.ensures in
+    to_z-of_z w64 c.nearest_quotient.result fq ∙ q ∙ ap (λ (z : ℤ). nearest z c.args.d) r
     ∙ sym (ap (λ (b : Bool). cond b (cut (c.args.offset.x *ℤ c.args.n) c.args.d) (nearest (c.args.offset.x *ℤ c.args.n) c.args.d)) (some_bits c.args.offset.y c.if-offset-eq0.false))

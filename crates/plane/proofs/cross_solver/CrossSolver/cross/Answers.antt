@@ -4,8 +4,8 @@ use Rattle.plane.specs.Models.{edge_of}
 use Rattle.plane.proofs.MetMarks.{met_marks, met_as, answered}
 use Rattle.plane.proofs.cross_solver.CrossSolver.cross.Goals as goal
 
-pub middle-cross-requires : goal.middle-cross-requires
-middle-cross-requires c = met_as (edge_of c.args.target.now) (edge_of c.args.other.now) _ c.in-Crossed.ensures
+pub middle_cross-requires : goal.middle_cross-requires
+middle_cross-requires c = met_as (edge_of c.args.target.now) (edge_of c.args.other.now) _ c.in-Crossed.ensures
 
 pub returns-in-Aligned : goal.returns-in-Aligned
 returns-in-Aligned c =
@@ -29,4 +29,4 @@ returns-in-TargetB c = met_marks (edge_of c.args.target.now) (edge_of c.args.oth
 pub returns-in-Crossed : goal.returns-in-Crossed
 returns-in-Crossed c =
     let m = met_marks (edge_of c.args.target.now) (edge_of c.args.other.now) c.args.radius.current _ c.in-Crossed.ensures in
-    answered (edge_of c.args.target.now) (edge_of c.args.other.now) c.args.radius.current (point_of c.middle-cross.result.point) c.middle-cross.result.is_round c.middle-cross.result.cross_type _ m.0 m.1 c.middle-cross.ensures
+    answered (edge_of c.args.target.now) (edge_of c.args.other.now) c.args.radius.current (point_of c.middle_cross.result.point) c.middle_cross.result.is_round c.middle_cross.result.cross_type _ m.0 m.1 c.middle_cross.ensures

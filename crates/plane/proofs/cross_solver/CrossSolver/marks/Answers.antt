@@ -5,10 +5,10 @@ use Rattle.plane.proofs.PairLaws.{PairLaws, pair_laws}
 use Rattle.plane.proofs.Worked.{worked}
 use Rattle.plane.proofs.cross_solver.CrossSolver.marks.Goals as goal
 
-pub returns-then-is-smaller : goal.returns-then-is-smaller
-returns-then-is-smaller c =
-    let w = given_turned (edge_of c.args.first.now) (edge_of c.args.second.now) c.args.radius.current _ _ _ (sym c.is-smaller.ensures ∙ c.if-is-smaller.true)
-    c.target-marks-turned.ensures.target c.target-marks-turned.ensures.other c.target-marks-turned.ensures.flag in
+pub returns-then-is_smaller : goal.returns-then-is_smaller
+returns-then-is_smaller c =
+    let w = given_turned (edge_of c.args.first.now) (edge_of c.args.second.now) c.args.radius.current _ _ _ (sym c.is_smaller.ensures ∙ c.if-is_smaller.true)
+    c.target_marks-turned.ensures.target c.target_marks-turned.ensures.other c.target_marks-turned.ensures.flag in
     let l = pair_laws c.args.first.now c.args.second.now c.args.radius.current in
     record {
       on_first = w.on_first;
@@ -28,8 +28,8 @@ returns-then-is-smaller c =
 
 pub returns : goal.returns
 returns c =
-    let w = given_straight (edge_of c.args.first.now) (edge_of c.args.second.now) c.args.radius.current _ _ _ (sym c.is-smaller.ensures ∙ c.if-is-smaller.false)
-    c.target-marks.ensures.target c.target-marks.ensures.other c.target-marks.ensures.flag in
+    let w = given_straight (edge_of c.args.first.now) (edge_of c.args.second.now) c.args.radius.current _ _ _ (sym c.is_smaller.ensures ∙ c.if-is_smaller.false)
+    c.target_marks.ensures.target c.target_marks.ensures.other c.target_marks.ensures.flag in
     let l = pair_laws c.args.first.now c.args.second.now c.args.radius.current in
     record {
       on_first = w.on_first;

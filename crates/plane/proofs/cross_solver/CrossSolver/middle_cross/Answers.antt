@@ -6,14 +6,14 @@ use Rattle.plane.specs.Answers.{Shows}
 use Rattle.plane.proofs.MetMarks.{inner_exact, inner_rounded}
 use Rattle.plane.proofs.cross_solver.CrossSolver.middle_cross.Goals as goal
 
-pub returns-then-on-lines : goal.returns-then-on-lines
-returns-then-on-lines c =
-    inner_exact (edge_of c.args.target.now) (edge_of c.args.other.now) c.args.radius.current (point_of c.cross-point-point.result) _ c.cross-point-point.ensures
-    (sym c.on-lines.ensures ∙ c.if-on-lines.true)
+pub returns-then-on_lines : goal.returns-then-on_lines
+returns-then-on_lines c =
+    inner_exact (edge_of c.args.target.now) (edge_of c.args.other.now) c.args.radius.current (point_of c.cross_point-point.result) _ c.cross_point-point.ensures
+    (sym c.on_lines.ensures ∙ c.if-on_lines.true)
 
 pub returns : goal.returns
 returns c =
     subst (λ (m : Marking). Shows c.snap.result m)
-    (sym (inner_rounded (edge_of c.args.target.now) (edge_of c.args.other.now) c.args.radius.current (point_of c.cross-point-point.result) _ c.cross-point-point.ensures
-    (sym c.on-lines.ensures ∙ c.if-on-lines.false)))
-    (subst (λ (r : ℕ). Shows c.snap.result (snapped (edge_of c.args.target.now) (edge_of c.args.other.now) (point_of c.cross-point-point.result) r)) c.radius-squared.ensures c.snap.ensures)
+    (sym (inner_rounded (edge_of c.args.target.now) (edge_of c.args.other.now) c.args.radius.current (point_of c.cross_point-point.result) _ c.cross_point-point.ensures
+    (sym c.on_lines.ensures ∙ c.if-on_lines.false)))
+    (subst (λ (r : ℕ). Shows c.snap.result (snapped (edge_of c.args.target.now) (edge_of c.args.other.now) (point_of c.cross_point-point.result) r)) c.radius_squared.ensures c.snap.ensures)

@@ -6,9 +6,9 @@ use Rattle.plane.proofs.cross_solver.CrossSolver.numerator.Goals as goal
 
 pub returns : goal.returns
 returns c =
-    let f : SFits w64 c.cross-product.result = record { sfits = c.cross-product.type-inv } in
+    let f : SFits w64 c.cross_product.result = record { sfits = c.cross_product.type_inv } in
     record {
-      value = simp to_z-of_z (numer_by (edge_of c.args.target.now) (edge_of c.args.other.now) _ _ _ _ _ c.cross-product.ensures.value
+      value = simp to_z-of_z (numer_by (edge_of c.args.target.now) (edge_of c.args.other.now) _ _ _ _ _ c.cross_product.ensures.value
           c.between.ensures.x c.between.ensures.y c.between-2.ensures.x c.between-2.ensures.y);
-      size = simp to_z-of_z c.cross-product.ensures.size;
+      size = simp to_z-of_z c.cross_product.ensures.size;
     }

@@ -6,5 +6,5 @@ use Rattle.plane.proofs.meeting.Meeting.of.Goals as goal
 pub returns : goal.returns
 unfolding meeting
 returns c =
-    c.by-directions.ensures
-    ∙ meeting_same _ _ _ _ _ _ _ _ c.of-other-a.ensures c.of-other-b.ensures c.of-target-a.ensures c.of-target-b.ensures
+    c.by_directions.ensures
+    ∙ meeting_same _ _ _ _ _ _ _ _ c.of-other_a.ensures c.of-other_b.ensures c.of-target_a.ensures c.of-target_b.ensures

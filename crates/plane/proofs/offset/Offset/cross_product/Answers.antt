@@ -19,16 +19,16 @@ two c =
     let cx = off64 c.args.v.x c.args.v.wide in
     let cy = off64 c.args.v.y c.args.v.high in
     record {
-      f = record { sfits = c.times.type-inv };
-      g = record { sfits = c.times-2.type-inv };
+      f = record { sfits = c.times.type_inv };
+      g = record { sfits = c.times-2.type_inv };
       m = room c.times.result c.args.v.y (2 ^ 20) (simp to_z-of_z at c.times.ensures.size) c.args.v.high;
       n = room c.times-2.result c.args.v.x (2 ^ 20) (simp to_z-of_z at c.times-2.ensures.size) c.args.v.wide;
       p = simp to_z-of_z at c.times.ensures.value;
       q = simp to_z-of_z at c.times-2.ensures.value;
     }
 
-pub overflow-sub-result : goal.overflow-sub-result
-overflow-sub-result c =
+pub overflow_sub-result : goal.overflow_sub-result
+overflow_sub-result c =
     let t = two c in
     let f = t.f in
     let g = t.g in

@@ -2,15 +2,15 @@ use Rattle.std.proofs.lemmas.Int.{to_z-of_z}
 use Rattle.plane.proofs.Fits.{times64, sized}
 use Rattle.plane.proofs.offset.methods.times.Goals as goal
 
-pub overflow-mul-result : goal.overflow-mul-result
-overflow-mul-result c =
+pub overflow_mul-result : goal.overflow_mul-result
+overflow_mul-result c =
     let fa = c.ranges.a in
     let fb = c.ranges.b in
-    simp to_z-of_z (times64 c.args.a c.args.b c.requires.0 c.requires.1)
+    simp to_z-of_z (times64 c.args.a c.args.b c.requires.a_bound c.requires.b_bound)
 
 pub returns : goal.returns
 returns c =
     let fa = c.ranges.a in
     let fb = c.ranges.b in
-    let f = times64 c.args.a c.args.b c.requires.0 c.requires.1 in
-    record { value = simp to_z-of_z; size = simp to_z-of_z (sized c.args.a c.args.b c.requires.0) }
+    let f = times64 c.args.a c.args.b c.requires.a_bound c.requires.b_bound in
+    record { value = simp to_z-of_z; size = simp to_z-of_z (sized c.args.a c.args.b c.requires.a_bound) }

@@ -1,8 +1,8 @@
 use Rattle.plane.proofs.TouchKinds.{touch_kind, touch_end}
 use Rattle.plane.proofs.touch_type.TouchType.of.Goals as goal
 
-pub on-one-line-requires : goal.on-one-line-requires
-on-one-line-requires c = touch_kind c.args.first.now c.args.second.now _ c.in-Aligned.ensures
+pub on_one_line-requires : goal.on_one_line-requires
+on_one_line-requires c = touch_kind c.args.first.now c.args.second.now _ c.in-Aligned.ensures
 
 pub returns-in-Apart : goal.returns-in-Apart
 returns-in-Apart c = touch_kind c.args.first.now c.args.second.now _ c.in-Apart.ensures
@@ -10,5 +10,5 @@ returns-in-Apart c = touch_kind c.args.first.now c.args.second.now _ c.in-Apart.
 pub returns-in-Crossed : goal.returns-in-Crossed
 returns-in-Crossed c = touch_kind c.args.first.now c.args.second.now _ c.in-Crossed.ensures
 
-pub returns-in-default : goal.returns-in-default
-returns-in-default c = touch_end c.args.first.now c.args.second.now _ c.of.ensures c.in-default.not-Aligned c.in-default.not-Apart c.in-default.not-Crossed
+pub returns-in_default : goal.returns-in_default
+returns-in_default c = touch_end c.args.first.now c.args.second.now _ c.of.ensures c.in_default.not-Aligned c.in_default.not-Apart c.in_default.not-Crossed

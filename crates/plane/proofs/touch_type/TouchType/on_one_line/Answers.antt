@@ -5,22 +5,22 @@ use Rattle.plane.proofs.Touching.{as_overlay, as_equal, as_aligned_none}
 use Rattle.plane.proofs.TouchKinds.{equal_yes, equal_no, any_between}
 use Rattle.plane.proofs.touch_type.TouchType.on_one_line.Goals as goal
 
-pub returns-then-is-equal : goal.returns-then-is-equal
-returns-then-is-equal c =
+pub returns-then-is_equal : goal.returns-then-is_equal
+returns-then-is_equal c =
     as_equal (edge_of c.args.first.now) (edge_of c.args.second.now) (proper_of c.args.first.now)
-    (equal_yes (edge_of c.args.first.now) (edge_of c.args.second.now) (sym c.is_equal.ensures ∙ c.if-is-equal.true))
+    (equal_yes (edge_of c.args.first.now) (edge_of c.args.second.now) (sym c.is_equal.ensures ∙ c.if-is_equal.true))
 
-pub returns-then-has-any : goal.returns-then-has-any
-returns-then-has-any c =
+pub returns-then-has_any : goal.returns-then-has_any
+returns-then-has_any c =
     as_overlay (edge_of c.args.first.now) (edge_of c.args.second.now) (proper_of c.args.first.now) (proper_of c.args.second.now) c.requires
-    (any_between (edge_of c.args.first.now) (edge_of c.args.second.now) _ _ _ _ _ c.has-any.ensures
+    (any_between (edge_of c.args.first.now) (edge_of c.args.second.now) _ _ _ _ _ c.has_any.ensures
     c.collinear.ensures.target_a c.collinear.ensures.target_b c.collinear.ensures.other_a c.collinear.ensures.other_b
-    ∙ c.if-has-any.true)
+    ∙ c.if-has_any.true)
 
 pub returns : goal.returns
 returns c =
     as_aligned_none (edge_of c.args.first.now) (edge_of c.args.second.now) (proper_of c.args.first.now) (proper_of c.args.second.now) c.requires
-    (equal_no (edge_of c.args.first.now) (edge_of c.args.second.now) (sym c.is_equal.ensures ∙ c.if-is-equal.false))
-    (any_between (edge_of c.args.first.now) (edge_of c.args.second.now) _ _ _ _ _ c.has-any.ensures
+    (equal_no (edge_of c.args.first.now) (edge_of c.args.second.now) (sym c.is_equal.ensures ∙ c.if-is_equal.false))
+    (any_between (edge_of c.args.first.now) (edge_of c.args.second.now) _ _ _ _ _ c.has_any.ensures
     c.collinear.ensures.target_a c.collinear.ensures.target_b c.collinear.ensures.other_a c.collinear.ensures.other_b
-    ∙ c.if-has-any.false)
+    ∙ c.if-has_any.false)
