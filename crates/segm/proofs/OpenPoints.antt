@@ -1,6 +1,5 @@
 -- There is one list of open points, and so one number.
 use Rattle.std.proofs.Common.{◌≡◌, Bool, true, false, cond, ◌||◌, List, [], ◌∷◌, length, pos, is_some, IfSome, Some, None, Option, Ordering, Less, Equal, Greater, sym, refl, ap, ◌∙◌}
-use Rattle.std.specs.Cmp.{int_cmp_total, pairs}
 use Rattle.std.specs.Ordering.{is_eq}
 use Rattle.std.specs.List.{AllByRecursion as All}
 use Rattle.std.proofs.ByRecursion.{All-weaker}
@@ -12,8 +11,8 @@ use Rattle.plane.specs.Points.{Point, ◌≺◌}
 use Rattle.plane.proofs.Points.{weaken, never, apart}
 use Rattle.segm.specs.Counts.{CountKind}
 use Rattle.segm.specs.Orders.{point_order}
-use Rattle.segm.specs.OrderLaws.{Stands, points_ranked, equal_points}
-use Rattle.segm.specs.CornerKind.{point_key, point_itself}
+use Rattle.segm.specs.OrderLaws.{Stands, points_ranked, equal_points, point_total}
+use Rattle.segm.specs.CornerKind.{point_itself}
 use Rattle.segm.specs.Open.{Rising, listed?, OpenDetermines}
 
 before_ranked : (p q : Point) (o : Ordering) → Stands o p q → p ≺ q → o ≡ Less
@@ -28,9 +27,9 @@ point_kind = record {
   joined = λ p q. p;
   empty? = λ p. false;
   blank = record { x = pos 0; y = pos 0 };
-  flip = λ p q. (pairs int_cmp_total int_cmp_total).flip (point_key p) (point_key q);
-  trans = λ p q r. (pairs int_cmp_total int_cmp_total).trans (point_key p) (point_key q) (point_key r);
-  alike = λ p q r. (pairs int_cmp_total int_cmp_total).alike (point_key p) (point_key q) (point_key r);
+  flip = λ p q. point_total.antisymm p q;
+  trans = λ p q r. point_total.trans p q r;
+  alike = λ p q r. point_total.congr p q r;
   keeps = λ p q e. point_itself p;
   comm = equal_points;
   assoc = λ p q r e h. refl;

@@ -1,6 +1,5 @@
 -- The corners of a table that holds the balance are the open points.
 use Rattle.std.proofs.Common.{◌≡◌, ℕ, Bool, true, false, not, ◌||◌, List, [], ◌∷◌, map, length, take, Less, Equal, sym, refl, ap, ◌∙◌, subst, arith}
-use Rattle.std.specs.Cmp.{int_cmp_total, pairs}
 use Rattle.std.specs.Ordering.{is_eq}
 use Rattle.std.specs.List.{AllByRecursion as All}
 use Rattle.std.proofs.ByRecursion.{All-map, All-weaker}
@@ -12,9 +11,9 @@ use Rattle.plane.specs.Points.{Point, ◌≺◌}
 use Rattle.plane.specs.PointOf.{point_of}
 use Rattle.segm.specs.Counts.{CountKind}
 use Rattle.segm.specs.Orders.{point_order}
-use Rattle.segm.specs.OrderLaws.{Stands, points_ranked}
+use Rattle.segm.specs.OrderLaws.{Stands, points_ranked, point_total}
 use Rattle.segm.specs.Balance.{when, total, balance}
-use Rattle.segm.specs.CornerKind.{corner_kind, corner_order, point_key}
+use Rattle.segm.specs.CornerKind.{corner_kind, corner_order}
 use Rattle.segm.specs.Held.{counts_at, Holds}
 use Rattle.segm.specs.Open.{Rising, listed?, Open}
 use Rattle.segm.specs.declared.corner.Corner.{Corner}
@@ -39,7 +38,7 @@ module _ {C : Type 0} (K : CountKind C) where
   none_behind : (p q : Point) (l : List (Corner C)) → point_order p q ≡ Equal → All (λ d. point_order q (place_of d) ≡ Less) l → total K (counts_at K p) l ≡ K.neutral
   none_behind p q [] e h = refl
   none_behind p q (d ∷ l) e h =
-      ap (λ o. K.sum (when K (is_eq o) d.count) (total K (counts_at K p) l)) ((pairs int_cmp_total int_cmp_total).alike (point_key p) (point_key q) (point_key (place_of d)) e ∙ h.0)
+      ap (λ o. K.sum (when K (is_eq o) d.count) (total K (counts_at K p) l)) (point_total.congr p q (place_of d) e ∙ h.0)
       ∙ identity_left K (total K (counts_at K p) l) ∙ none_behind p q l e h.1
 
   -- a point is listed where the corners count

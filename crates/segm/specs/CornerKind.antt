@@ -3,14 +3,13 @@ use Rattle.std.specs.Prelude.{◌≡◌, true, ℤ}
 use Rattle.std.specs.declared.cmp.Ordering.TheVariants.{Equal}
 use Rattle.std.specs.declared.cmp.Ordering.{Ordering}
 use Rattle.std.proofs.Common.{ap, ◌∙◌}
-use Rattle.std.specs.Cmp.{int_cmp_total, pairs}
 use Rattle.table.specs.Records.{RecordKind}
 use Rattle.table.proofs.Orders.{balanced}
 use Rattle.plane.specs.Points.{Point}
 use Rattle.plane.specs.PointOf.{point_of}
 use Rattle.segm.specs.Counts.{CountKind}
 use Rattle.segm.specs.Orders.{point_order}
-use Rattle.segm.specs.OrderLaws.{same_point, equal_points}
+use Rattle.segm.specs.OrderLaws.{same_point, equal_points, point_total}
 use Rattle.segm.specs.Corners.{joined_corner, blank_corner}
 use Rattle.segm.specs.declared.corner.Corner.{Corner}
 
@@ -18,7 +17,7 @@ abbrev pub point_key : Point → ℤ × ℤ
 point_key p = (p.x, p.y)
 
 pub point_itself : (p : Point) → point_order p p ≡ Equal
-point_itself p = balanced (point_order p p) ((pairs int_cmp_total int_cmp_total).flip (point_key p) (point_key p))
+point_itself p = balanced (point_order p p) (point_total.antisymm p p)
 
 module _ {C : Type 0} where
   abbrev pub corner_order : Corner C → Corner C → Ordering
@@ -46,9 +45,9 @@ module _ {C : Type 0} (K : CountKind C) where
     joined = joined_corner K;
     empty? = λ c. K.empty? c.count;
     blank = blank_corner K;
-    flip = λ c d. (pairs int_cmp_total int_cmp_total).flip (corner_key c) (corner_key d);
-    trans = λ c d e. (pairs int_cmp_total int_cmp_total).trans (corner_key c) (corner_key d) (corner_key e);
-    alike = λ c d e. (pairs int_cmp_total int_cmp_total).alike (corner_key c) (corner_key d) (corner_key e);
+    flip = λ c d. point_total.antisymm (point_of c.point) (point_of d.point);
+    trans = λ c d e. point_total.trans (point_of c.point) (point_of d.point) (point_of e.point);
+    alike = λ c d e. point_total.congr (point_of c.point) (point_of d.point) (point_of e.point);
     keeps = λ c d e. point_itself (point_of c.point);
     comm = corners_comm;
     assoc = λ c d e h k. corners_assoc c d e;

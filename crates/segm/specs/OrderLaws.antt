@@ -5,7 +5,7 @@ use Rattle.std.specs.declared.cmp.Ordering.{Ordering}
 use Rattle.std.proofs.Common.{sym, subst}
 use mathlib.Core.HLevel.{is_prop→PathP}
 use Rattle.std.proofs.Math.Bridge.{le_prop}
-use Rattle.std.specs.Cmp.{int_ranks}
+use Rattle.std.specs.Cmp.{IsTotalOrder, int_ranks, int_cmp_total, on_total, then_total}
 use Rattle.std.specs.Ordering.{MatchOrdering, ordering_then, int_cmp}
 use Rattle.plane.specs.Points.{Point, ◌≺◌, by_x, by_y}
 use Rattle.plane.specs.Edges.{Edge, ◌⊏◌, by_first, by_second}
@@ -50,3 +50,10 @@ equal_points p q e = subst (λ o. Stands o p q) e (points_ranked p q)
 
 pub equal_edges : (e g : Edge) → edge_order e g ≡ Equal → e ≡ g
 equal_edges e g h = subst (λ o. MatchOrdering o (e ⊏ g) (e ≡ g) (g ⊏ e)) h (edges_ranked e g)
+
+-- both orders are total
+pub point_total : IsTotalOrder point_order
+point_total = then_total (on_total (λ (p : Point). p.x) int_cmp_total) (on_total (λ (p : Point). p.y) int_cmp_total)
+
+pub edge_total : IsTotalOrder edge_order
+edge_total = then_total (on_total (λ (e : Edge). e.a) point_total) (on_total (λ (e : Edge). e.b) point_total)

@@ -9,12 +9,11 @@ use Rattle.std.specs.Ordering.{int_cmp, ordering_then}
 
 -- x first, then y
 abbrev pub point_order : Point → Point → Ordering
-point_order p q = ordering_then (int_cmp (p.x, p.y).0 (q.x, q.y).0) (int_cmp (p.x, p.y).1 (q.x, q.y).1)
+point_order p q = ordering_then (int_cmp p.x q.x) (int_cmp p.y q.y)
 
 -- first end, then second
 abbrev pub edge_order : Edge → Edge → Ordering
-edge_order e g =
-    ordering_then (ordering_then (int_cmp ((e.a.x, e.a.y), (e.b.x, e.b.y)).0.0 ((g.a.x, g.a.y), (g.b.x, g.b.y)).0.0) (int_cmp ((e.a.x, e.a.y), (e.b.x, e.b.y)).0.1 ((g.a.x, g.a.y), (g.b.x, g.b.y)).0.1)) (ordering_then (int_cmp ((e.a.x, e.a.y), (e.b.x, e.b.y)).1.0 ((g.a.x, g.a.y), (g.b.x, g.b.y)).1.0) (int_cmp ((e.a.x, e.a.y), (e.b.x, e.b.y)).1.1 ((g.a.x, g.a.y), (g.b.x, g.b.y)).1.1))
+edge_order e g = ordering_then (point_order e.a g.a) (point_order e.b g.b)
 
 abbrev pub origin : IntPoint
 origin = record { x = pos 0; y = pos 0; wide = zero-le; high = zero-le }

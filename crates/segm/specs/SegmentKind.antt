@@ -2,13 +2,12 @@
 use Rattle.std.specs.Prelude.{◌≡◌, true, ℤ}
 use Rattle.std.specs.declared.cmp.Ordering.TheVariants.{Equal}
 use Rattle.std.proofs.Common.{ap, ◌∙◌}
-use Rattle.std.specs.Cmp.{int_cmp_total, pairs}
 use Rattle.table.specs.Records.{RecordKind}
 use Rattle.table.proofs.Orders.{balanced}
 use Rattle.plane.specs.Edges.{Edge}
 use Rattle.segm.specs.Counts.{CountKind}
 use Rattle.segm.specs.Orders.{edge_order}
-use Rattle.segm.specs.OrderLaws.{same_point, equal_edges}
+use Rattle.segm.specs.OrderLaws.{same_point, equal_edges, edge_total}
 use Rattle.segm.specs.Segments.{ends_of, joined_segment, blank_segment}
 use Rattle.segm.specs.declared.segment.Segment.{Segment}
 
@@ -16,7 +15,7 @@ abbrev pub key : Edge → (ℤ × ℤ) × (ℤ × ℤ)
 key e = ((e.a.x, e.a.y), (e.b.x, e.b.y))
 
 pub edge_itself : (e : Edge) → edge_order e e ≡ Equal
-edge_itself e = balanced (edge_order e e) ((pairs (pairs int_cmp_total int_cmp_total) (pairs int_cmp_total int_cmp_total)).flip (key e) (key e))
+edge_itself e = balanced (edge_order e e) (edge_total.antisymm e e)
 
 module _ {C : Type 0} (K : CountKind C) where
   pub joined_comm : (s t : Segment C) → edge_order (ends_of s) (ends_of t) ≡ Equal → joined_segment K s t ≡ joined_segment K t s
@@ -38,9 +37,9 @@ module _ {C : Type 0} (K : CountKind C) where
     joined = joined_segment K;
     empty? = λ s. K.empty? s.count;
     blank = blank_segment K;
-    flip = λ s t. (pairs (pairs int_cmp_total int_cmp_total) (pairs int_cmp_total int_cmp_total)).flip (key (ends_of s)) (key (ends_of t));
-    trans = λ s t u. (pairs (pairs int_cmp_total int_cmp_total) (pairs int_cmp_total int_cmp_total)).trans (key (ends_of s)) (key (ends_of t)) (key (ends_of u));
-    alike = λ s t u. (pairs (pairs int_cmp_total int_cmp_total) (pairs int_cmp_total int_cmp_total)).alike (key (ends_of s)) (key (ends_of t)) (key (ends_of u));
+    flip = λ s t. edge_total.antisymm (ends_of s) (ends_of t);
+    trans = λ s t u. edge_total.trans (ends_of s) (ends_of t) (ends_of u);
+    alike = λ s t u. edge_total.congr (ends_of s) (ends_of t) (ends_of u);
     keeps = λ s t e. edge_itself (ends_of s);
     comm = joined_comm;
     assoc = λ s t u e h. joined_assoc s t u;

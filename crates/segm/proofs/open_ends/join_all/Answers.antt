@@ -20,18 +20,18 @@ loop-s-preserved g c =
     grown_then K (λ p. balance K p (take i l)) (λ p. brings K p s) (λ p. balance K p (take (i + 1) l)) (2 * i) 2 (2 * (i + 1))
     (content_of c.args.corners.now) (content_of c.loop-s.corners)
     (balance_more K l i s c.loop-s-test.true c.s-item.is) (omega arith)
-    (content_of c.join-ends.new.corners) c.loop-s.invariant c.in-ok-join-ends.ensures
+    (content_of c.join_ends.new.corners) c.loop-s.invariant c.in_ok-join_ends.ensures
 
-pub returns-in-err-join-ends : goal.returns-in-err-join-ends
-returns-in-err-join-ends g c =
+pub returns-in_err-join_ends : goal.returns-in_err-join_ends
+returns-in_err-join_ends g c =
     let K = g.C.WindingCount.kind in
     let l = c.args.segments.now in
     let i = c.loop-s.s-index in
     let s = c.s-item.result in
-    grows_failed K (λ p. balance K p l) (2 * length l) (content_of c.args.corners.now) (content_of c.join-ends.new.corners) c.from-residual.result c.from-residual.ensures.0
+    grows_failed K (λ p. balance K p l) (2 * length l) (content_of c.args.corners.now) (content_of c.join_ends.new.corners) c.from_residual.result c.from_residual.ensures.0
     (crowded_then K (λ p. balance K p (take i l)) (λ p. brings K p s) (λ p. balance K p (take (i + 1) l)) (2 * i) 2 (2 * length l)
     (content_of c.args.corners.now) (content_of c.loop-s.corners) (balance_more K l i s c.loop-s-test.true c.s-item.is) (omega (arith, c.loop-s-test.true))
-    c.loop-s.invariant c.in-err-join-ends.ensures)
+    c.loop-s.invariant c.in_err-join_ends.ensures)
 
 pub returns : goal.returns
 returns g c =

@@ -8,7 +8,7 @@ pub returns : goal.returns
 returns g c =
     let K = g.C.WindingCount.kind in
     record {
-      count = c.count-open-answer.ensures;
-      blank = c.blank-all.ensures ∙ ap (λ (n : ℕ). replicate n (blank_corner K)) c.count-open-answer.auto.places;
+      count = c.count_open-answer.ensures;
+      blank = c.blank_all.ensures ∙ ap (λ (n : ℕ). replicate n (blank_corner K)) c.count_open-answer.auto.places;
       determined = open_determined K;
     }

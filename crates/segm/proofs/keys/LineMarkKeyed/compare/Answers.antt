@@ -4,4 +4,4 @@ use Rattle.std.specs.Ordering.{ordering_then}
 use Rattle.segm.proofs.keys.LineMarkKeyed.compare.Goals as goal
 
 pub returns : goal.returns
-returns c = c.then.ensures ∙ ap₂ ordering_then c.cmp-by-index.ensures c.compare-points-by-point.ensures.answer
+returns c = c.then.ensures ∙ ap₂ ordering_then c.cmp-by_index.ensures c.compare_points-by_point.ensures.answer
