@@ -3,12 +3,9 @@ ghost use Rattle.std.specs.Prelude.{◌≡◌};
 ghost use Rattle.plane.specs.Edges.{Edge};
 ghost use Rattle.plane.specs.PointOf.{point_of};
 ghost use Rattle.plane.specs.Models.{edge_of};
-ghost use Rattle.segm.specs.Segments.{ends_of};
 
 use plane::int_point::IntPoint;
 use plane::x_segment::XSegment;
-use segm::segment::Segment;
-use segm::winding::WindingCount;
 
 pub trait EdgeRecord: Copy {
     ghost edge: { Self → Edge };
@@ -22,18 +19,6 @@ pub trait EdgeRecord: Copy {
 
 impl EdgeRecord for XSegment {
     ghost edge = { edge_of };
-
-    fn first_end(self) -> IntPoint {
-        self.a
-    }
-
-    fn second_end(self) -> IntPoint {
-        self.b
-    }
-}
-
-impl<C: WindingCount> EdgeRecord for Segment<C> {
-    ghost edge = { ends_of };
 
     fn first_end(self) -> IntPoint {
         self.a

@@ -8,4 +8,5 @@ pub mod filling;
 pub mod finding;
 pub mod int_rect;
 pub mod plain_edge;
+pub mod segment_record;
 pub mod taking;

@@ -17,42 +17,42 @@ returns-then-announced-shown c =
     let x = c.args in
     early_reached x.walking x.announced x.shown (box_of x.extent) (edge x.a x.b) c.if-walking.false c.if-announced-shown.true
 
-pub returns-in-err-first : goal.returns-in-err-first
-returns-in-err-first c =
+pub returns-in_err-first : goal.returns-in_err-first
+returns-in_err-first c =
     let x = c.args in
-    let p = err_from_is_err_and c.from-residual.result c.from-residual.ensures.1 in
-    let told = c.in-err-first.ensures in
+    let p = err_from_is_err_and c.from_residual.result c.from_residual.ensures.1 in
+    let told = c.in_err-first.ensures in
     rw (p.1, p.2)
-    (early_ranged x.walking x.announced x.shown (box_of x.extent) (edge x.a x.b) c.if-walking.false c.if-announced-shown.false (sym c.if-not-is-before.ensures)
+    (early_ranged x.walking x.announced x.shown (box_of x.extent) (edge x.a x.b) c.if-walking.false c.if-announced-shown.false (sym c.if-not-is_before.ensures)
     (and_left _ _ (ranged_false (plain_point x.a) told.1))
     ∙ ap Some (sym told.0))
 
-pub returns-in-err-second : goal.returns-in-err-second
-returns-in-err-second c =
+pub returns-in_err-second : goal.returns-in_err-second
+returns-in_err-second c =
     let x = c.args in
-    let p = err_from_is_err_and c.from-residual-in-err-second.result c.from-residual-in-err-second.ensures.1 in
-    let told = c.in-err-second.ensures in
+    let p = err_from_is_err_and c.from_residual-in_err-second.result c.from_residual-in_err-second.ensures.1 in
+    let told = c.in_err-second.ensures in
     rw (p.1, p.2)
-    (early_ranged x.walking x.announced x.shown (box_of x.extent) (edge x.a x.b) c.if-walking.false c.if-announced-shown.false (sym c.if-not-is-before.ensures)
+    (early_ranged x.walking x.announced x.shown (box_of x.extent) (edge x.a x.b) c.if-walking.false c.if-announced-shown.false (sym c.if-not-is_before.ensures)
     (and_right _ _ (ranged_false (plain_point x.b) told.1))
     ∙ ap Some (sym told.0))
 
-pub returns-then-not-contains-edge : goal.returns-then-not-contains-edge
-returns-then-not-contains-edge c =
+pub returns-then-not-contains_edge : goal.returns-then-not-contains_edge
+returns-then-not-contains_edge c =
     let x = c.args in
-    let a = c.in-ok-first.ensures in
-    let b = c.in-ok-second.ensures in
-    early_outside x.walking x.announced x.shown (box_of x.extent) (edge x.a x.b) c.if-walking.false c.if-announced-shown.false (sym c.if-not-is-before.ensures)
-    (and_from _ _ (ranged_point c.in-ok-first.first _ a) (ranged_point c.in-ok-second.second _ b))
-    (in_box_ends (box_of x.extent) _ _ c.in-ok-first.first c.in-ok-second.second _ a b c.if-not-contains-edge.ensures)
+    let a = c.in_ok-first.ensures in
+    let b = c.in_ok-second.ensures in
+    early_outside x.walking x.announced x.shown (box_of x.extent) (edge x.a x.b) c.if-walking.false c.if-announced-shown.false (sym c.if-not-is_before.ensures)
+    (and_from _ _ (ranged_point c.in_ok-first.first _ a) (ranged_point c.in_ok-second.second _ b))
+    (in_box_ends (box_of x.extent) _ _ c.in_ok-first.first c.in_ok-second.second _ a b c.if-not-contains_edge.ensures)
 
 pub returns : goal.returns
 returns c =
     let x = c.args in
-    let a = c.in-ok-first.ensures in
-    let b = c.in-ok-second.ensures in (
-      early_none x.walking x.announced x.shown (box_of x.extent) (edge x.a x.b) c.if-walking.false c.if-announced-shown.false (sym c.if-not-is-before.ensures)
-          (and_from _ _ (ranged_point c.in-ok-first.first _ a) (ranged_point c.in-ok-second.second _ b))
-          (in_box_ends (box_of x.extent) _ _ c.in-ok-first.first c.in-ok-second.second _ a b c.if-not-contains-edge.ensures),
+    let a = c.in_ok-first.ensures in
+    let b = c.in_ok-second.ensures in (
+      early_none x.walking x.announced x.shown (box_of x.extent) (edge x.a x.b) c.if-walking.false c.if-announced-shown.false (sym c.if-not-is_before.ensures)
+          (and_from _ _ (ranged_point c.in_ok-first.first _ a) (ranged_point c.in_ok-second.second _ b))
+          (in_box_ends (box_of x.extent) _ _ c.in_ok-first.first c.in_ok-second.second _ a b c.if-not-contains_edge.ensures),
       edge_ext a b,
     )

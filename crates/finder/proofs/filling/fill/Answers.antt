@@ -22,28 +22,28 @@ loop-i-preserved g c =
     let i = c.loop-i.i in
     let size = length-map xs edge in
     let x = c.index-edges-i.result in
-    shown_ok F.need m.capacity m.box (map edge xs) i (edge x) (F.meaning c.loop-i.finder) (F.meaning c.show-edge.new.finder) c.show-edge.result
+    shown_ok F.need m.capacity m.box (map edge xs) i (edge x) (F.meaning c.loop-i.finder) (F.meaning c.show_edge.new.finder) c.show_edge.result
     (omega (arith, size, c.loop-i-test.true)) (edge_at_map edge xs i x c.loop-i-test.true c.index-edges-i.is) c.loop-i.invariant.0 c.loop-i.invariant.1
-    c.show-edge.ensures.answers c.show-edge.ensures.leaves c.in-ok-show-edge.was
+    c.show_edge.ensures.answers c.show_edge.ensures.leaves c.in_ok-show_edge.was
 
-pub returns-in-err-show-edge : goal.returns-in-err-show-edge
-returns-in-err-show-edge g c =
+pub returns-in_err-show_edge : goal.returns-in_err-show_edge
+returns-in_err-show_edge g c =
     let F = g.F.Finder in
     let edge = g.E.EdgeRecord.edge in
     let xs = c.args.edges.now in
     let m = F.meaning c.start.new.self in
-    let m' = F.meaning c.show-edge.new.finder in
+    let m' = F.meaning c.show_edge.new.finder in
     let i = c.loop-i.i in
     let size = length-map xs edge in
     let x = c.index-edges-i.result in
-    let f = c.in-err-show-edge.field-0.0 in
-    let p = err_from_is_err_and c.from-residual.result c.from-residual.ensures.1 in
-    let refused = shown_err F.need m.capacity m.box (map edge xs) i (edge x) (F.meaning c.loop-i.finder) m' c.show-edge.result
+    let f = c.in_err-show_edge.field-0.0 in
+    let p = err_from_is_err_and c.from_residual.result c.from_residual.ensures.1 in
+    let refused = shown_err F.need m.capacity m.box (map edge xs) i (edge x) (F.meaning c.loop-i.finder) m' c.show_edge.result
     (omega (arith, size, c.loop-i-test.true)) (edge_at_map edge xs i x c.loop-i-test.true c.index-edges-i.is) c.loop-i.invariant.0 c.loop-i.invariant.1
-    c.show-edge.ensures.answers c.show-edge.ensures.leaves f c.in-err-show-edge.was in
-    let filled = filled_at F.need m.capacity (F.meaning c.args.finder.now).capacity m.box (box_of c.args.extent) (map edge xs) m' (Err f) c.from-residual.result
+    c.show_edge.ensures.answers c.show_edge.ensures.leaves f c.in_err-show_edge.was in
+    let filled = filled_at F.need m.capacity (F.meaning c.args.finder.now).capacity m.box (box_of c.args.extent) (map edge xs) m' (Err f) c.from_residual.result
     (ap (λ (z : Meaning). z.capacity) c.start.ensures) (ap (λ (z : Meaning). z.box) c.start.ensures) (sym (p.1 ∙ ap Err p.2)) refused in
-    record { filled = filled; by_need = λ s. by_need F.need (F.meaning c.args.finder.now).capacity (box_of c.args.extent) (map edge xs) s m' c.from-residual.result filled }
+    record { filled = filled; by_need = λ s. by_need F.need (F.meaning c.args.finder.now).capacity (box_of c.args.extent) (map edge xs) s m' c.from_residual.result filled }
 
 pub returns : goal.returns
 returns g c =

@@ -19,12 +19,12 @@ loop-i-preserved g c =
       v.0 ++ (p ∷ []),
       came_more F.walks (F.meaning c.loop-i.finder) (F.meaning c.next.new.self) c.next.result c.next.ensures (F.meaning c.args.finder.now) v.0 v.1 p c.in-Some.is,
       visits_more g.V.PairVisitor.visits c.args.visitor.now c.loop-i.visitor c.visit.new.self v.0 p v.2 c.visit.ensures,
-      c.saturating-add-taken.ensures ∙ number_more v.0 p c.loop-i.taken v.3,
+      c.saturating_add-taken.ensures ∙ number_more v.0 p c.loop-i.taken v.3,
     )
 
 pub returns : goal.returns
 returns g c =
     let F = g.F.Finder in
     let v = c.loop-i.invariant in
-    let all = came_all F.walks (F.meaning c.loop-i.finder) (F.meaning c.next.new.self) c.next.result c.next.ensures (F.meaning c.args.finder.now) v.0 v.1 c.in-default.is in
+    let all = came_all F.walks (F.meaning c.loop-i.finder) (F.meaning c.next.new.self) c.next.result c.next.ensures (F.meaning c.args.finder.now) v.0 v.1 c.in_default.is in
     record { took = record { pairs = v.0; allowed = all.0; number = v.3; leaves = all.1 }; visited = v.2 }

@@ -11,7 +11,7 @@ returns-then-j-self c =
       pairs = pairs_from s.used c.ahead-i.result.0 c.ahead-i.result.1;
       allowed = c.ahead-i.ensures.comes;
       answers = sym (from_first _ _ _ c.if-j-self.true);
-      leaves = ap (λ ps. walking_on ps (pairs_meaning s)) c.following-next-i.ensures.goes_on;
+      leaves = ap (λ ps. walking_on ps (pairs_meaning s)) c.following-next_i.ensures.goes_on;
     }
 
 pub returns-else-j-self : goal.returns-else-j-self
@@ -21,5 +21,5 @@ returns-else-j-self c =
       pairs = pairs_from s.used c.ahead-i.result.0 c.ahead-i.result.1;
       allowed = c.ahead-i.ensures.comes;
       answers = sym (ap first (from_past s.used c.ahead-i.result.0 c.ahead-i.result.1 c.if-j-self.false));
-      leaves = ap (λ ps. walking_on ps (pairs_meaning s)) c.following-next-i.ensures.goes_on;
+      leaves = ap (λ ps. walking_on ps (pairs_meaning s)) c.following-next_i.ensures.goes_on;
     }

@@ -19,12 +19,12 @@ use Rattle.finder.proofs.all_pairs.methods.AllPairsFinder.show.Goals as goal
 at_shown : (s : AllPairs) (e : Edge) (o : Option Fault) → early_refusal s.walking s.announced s.used (box_of s.extent) e ≡ o → early_refusal s.walking s.announced (length (pairs_meaning s).shown) (box_of s.extent) e ≡ o
 at_shown s e o h = ap (λ n. early_refusal s.walking s.announced n (box_of s.extent) e) (shown_size s) ∙ h
 
-pub returns-in-err-checked : goal.returns-in-err-checked
-returns-in-err-checked c =
+pub returns-in_err-checked : goal.returns-in_err-checked
+returns-in_err-checked c =
     let s = c.args.self.now in
     let e : Edge = record { a = plain_point c.args.a; b = plain_point c.args.b } in
-    let p = err_from_is_err_and c.from-residual.result c.from-residual.ensures.1 in
-    let r = refusal_early pairs_need (pairs_meaning s) e _ (at_shown s e _ c.in-err-checked.ensures) in
+    let p = err_from_is_err_and c.from_residual.result c.from_residual.ensures.1 in
+    let r = refusal_early pairs_need (pairs_meaning s) e _ (at_shown s e _ c.in_err-checked.ensures) in
     record { answers = p.1 ∙ ap Err p.2 ∙ sym (ap show_answer r); leaves = sym (ap (λ x. show_after x e (pairs_meaning s)) r) }
 
 pub returns-then-self : goal.returns-then-self
@@ -32,7 +32,7 @@ returns-then-self c =
     let s = c.args.self.now in
     let e : Edge = record { a = plain_point c.args.a; b = plain_point c.args.b } in
     let n = shown_size s in
-    let r = refusal_full pairs_need (pairs_meaning s) e (at_shown s e _ c.in-ok-checked.ensures.0) (simp length-append (omega (arith, n, c.if-self.true))) in
+    let r = refusal_full pairs_need (pairs_meaning s) e (at_shown s e _ c.in_ok-checked.ensures.0) (simp length-append (omega (arith, n, c.if-self.true))) in
     record { answers = sym (ap show_answer r ∙ ap (λ k. Err (FinderFull k)) n); leaves = sym (ap (λ x. show_after x e (pairs_meaning s)) r) }
 
 pub returns : goal.returns
@@ -40,7 +40,7 @@ returns c =
     let s = c.args.self.now in
     let e : Edge = record { a = plain_point c.args.a; b = plain_point c.args.b } in
     let n = shown_size s in
-    let r = refusal_none pairs_need (pairs_meaning s) e (at_shown s e _ c.in-ok-checked.ensures.0) (simp length-append (omega (arith, n, c.if-self.false))) in
+    let r = refusal_none pairs_need (pairs_meaning s) e (at_shown s e _ c.in_ok-checked.ensures.0) (simp length-append (omega (arith, n, c.if-self.false))) in
     record { answers = sym (ap show_answer r); leaves = after ∙ sym (ap (λ x. show_after x e (pairs_meaning s)) r) }
   where
     old : AllPairs
@@ -50,7 +50,7 @@ returns c =
     new = record { a = c.args.a; b = c.args.b }
 
     none : (k : ℕ) → cond old.walking (pairs_from k old.i old.j) [] ≡ []
-    none k = cond-false old.walking _ _ (early_passed old.walking old.announced old.used (box_of old.extent) (plain_edge new) c.in-ok-checked.ensures.0).filling
+    none k = cond-false old.walking _ _ (early_passed old.walking old.announced old.used (box_of old.extent) (plain_edge new) c.in_ok-checked.ensures.0).filling
 
     after : ◌≡◌ {A = Meaning}
         (record { box = box_of old.extent; announced = old.announced; shown = map plain_edge (take (old.used + 1) (set old.table.now old.used new)); coming = cond old.walking (pairs_from (old.used + 1) old.i old.j) []; walking = old.walking; capacity = length (set old.table.now old.used new) })
