@@ -21,7 +21,7 @@ pub fn read_head(line: &[u8]) -> Result<u32, Reason>
     let Some((exponent, letter)) = cut_at(line, TAB) else {
         return Err(Reason::HeadForm);
     };
-    if letter != b"P" {
+    if letter != b"P".as_slice() {
         return Err(Reason::HeadForm);
     }
     match read_unsigned(exponent) {

@@ -16,19 +16,19 @@ returns-in-Err c =
     let said = ap (λ f. Err f) c.reason.ensures ∙ ap edge_with c.in-Err.ensures in
     record { said = said; written = edge_only c.args.line.now (Err c.reason.result) said }
 
-pub returns-in-default : goal.returns-in-default
-returns-in-default c =
+pub returns-in_default : goal.returns-in_default
+returns-in_default c =
     let fit : SFits w32 c.in-Ok.points.0.0 = search rules in
     let fit_2 : SFits w32 c.in-Ok.points.0.1 = search rules in
-    let none = simp to_z-of_z at c.in-default.ensures.1 in
+    let none = simp to_z-of_z at c.in_default.ensures.1 in
     let said = sym (ap edge_with (sym c.in-Ok.ensures) ∙ first_outside (point c.in-Ok.points.0) (point c.in-Ok.points.1) none) in
     record { said = said; written = edge_only c.args.line.now (Err CoordinateOutside) said }
 
-pub returns-in-default-new : goal.returns-in-default-new
-returns-in-default-new c =
+pub returns-in_default-new : goal.returns-in_default-new
+returns-in_default-new c =
     let fit : SFits w32 c.in-Ok.points.1.0 = search rules in
     let fit_2 : SFits w32 c.in-Ok.points.1.1 = search rules in
-    let none = simp to_z-of_z at c.in-default-new.ensures.1 in
+    let none = simp to_z-of_z at c.in_default-new.ensures.1 in
     let said = sym (ap edge_with (sym c.in-Ok.ensures) ∙ second_outside (point c.in-Ok.points.0) (point c.in-Ok.points.1) none) in
     record { said = said; written = edge_only c.args.line.now (Err CoordinateOutside) said }
 
@@ -50,9 +50,9 @@ pub returns-in-Ok-new-3 : goal.returns-in-Ok-new-3
 returns-in-Ok-new-3 c =
     let p = c.in-Ok-new.p in
     let q = c.in-Ok-new-2.q in
-    let drawn : DrawnEdge = record { edge = c.in-Ok-new-3.edge; is_turned = c.is-before.result } in
+    let drawn : DrawnEdge = record { edge = c.in-Ok-new-3.edge; is_turned = c.is_before.result } in
     let said =
-    sym (edge_made (point_of p) (point_of q) drawn (ranged p) (ranged q) c.in-Ok-new-3.ensures c.is-before.ensures)
+    sym (edge_made (point_of p) (point_of q) drawn (ranged p) (ranged q) c.in-Ok-new-3.ensures c.is_before.ensures)
     ∙ said_of (goal.at.returns-in-Ok-new-3 c).After-new-3 in
     record { said = said; written = edge_only c.args.line.now (Ok drawn) said }
 

@@ -1,4 +1,5 @@
-use Rattle.std.proofs.Common.{Ok, Err, sym, ap, ◌∙◌}
+use Rattle.std.proofs.Common.{◌≡◌, ℕ, true, false, not, eqb, List, [], ◌∷◌, Ok, Err, refl, sym, ap, ◌∙◌}
+use lib.Pointwise.{pointwise}
 use Rattle.std.proofs.lemmas.Slice.Eq.{slice_eq-Decides}
 use Rattle.std.proofs.lemmas.Bool.{not-true, not-false}
 use Rattle.std.proofs.lemmas.Bool.Decides.{not_from_Decides, Decides-eqb}
@@ -8,22 +9,28 @@ use Rattle.drawing.proofs.Lines.{head_letter, head_other}
 use Rattle.drawing.proofs.Texts.{head_only}
 use Rattle.drawing.proofs.line.read_head.Goals as goal
 
-pub returns-in-default : goal.returns-in-default
-returns-in-default c =
-    let said = sym (ap head_of c.in-default.ensures) in
+-- the letter was compared with one that stands in the code
+another : (letter p : List ℕ) → true ≡ not (pointwise eqb letter p) → p ≡ 80 ∷ [] → letter ≡ 80 ∷ [] → ⊥
+another letter p e is same =
+    not_from_Decides (pointwise eqb letter p) (slice_eq-Decides Decides-eqb letter p _ refl) (not-true _ (sym e)) (same ∙ sym is)
+
+the_letter : (letter p : List ℕ) → false ≡ not (pointwise eqb letter p) → p ≡ 80 ∷ [] → letter ≡ 80 ∷ []
+the_letter letter p e is = (slice_eq-Decides Decides-eqb letter p _ refl).0 (not-false _ (sym e)) ∙ is
+
+pub returns-in_default : goal.returns-in_default
+returns-in_default c =
+    let said = sym (ap head_of c.in_default.ensures) in
     record { said = said; written = head_only c.args.line.now (Err HeadForm) said }
 
 pub returns-then-ne : goal.returns-then-ne
 returns-then-ne c =
-    let compared = c.if-ne.ensures in
-    let other = not_from_Decides compared.0 (slice_eq-Decides Decides-eqb _ _ compared.0 compared.1) (not-true _ (sym compared.2)) in
+    let other = another _ _ c.if-ne.ensures c.as_slice.ensures in
     let said = sym (ap head_of c.in-Some.ensures.0 ∙ head_other c.in-Some.exponent.now c.in-Some.letter.now other) in
     record { said = said; written = head_only c.args.line.now (Err HeadForm) said }
 
 pub returns-in-Ok : goal.returns-in-Ok
 returns-in-Ok c =
-    let compared = c.if-ne.ensures in
-    let letter = (slice_eq-Decides Decides-eqb _ _ compared.0 compared.1).0 (not-false _ (sym compared.2)) in
+    let letter = the_letter _ _ c.if-ne.ensures c.as_slice.ensures in
     let said =
     sym (ap head_of c.in-Some.ensures.0 ∙ head_letter c.in-Some.exponent.now c.in-Some.letter.now letter
     ∙ ap exponent_of (sym c.in-Ok.ensures.value)) in
@@ -31,8 +38,7 @@ returns-in-Ok c =
 
 pub returns-in-Err : goal.returns-in-Err
 returns-in-Err c =
-    let compared = c.if-ne.ensures in
-    let letter = (slice_eq-Decides Decides-eqb _ _ compared.0 compared.1).0 (not-false _ (sym compared.2)) in
+    let letter = the_letter _ _ c.if-ne.ensures c.as_slice.ensures in
     let said =
     ap (λ f. Err f) c.reason.ensures
     ∙ sym (ap head_of c.in-Some.ensures.0 ∙ head_letter c.in-Some.exponent.now c.in-Some.letter.now letter

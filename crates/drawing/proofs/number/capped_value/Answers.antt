@@ -7,7 +7,7 @@ use Rattle.drawing.proofs.number.capped_value.Goals as goal
 
 pub loop-byte-init : goal.loop-byte-init
 loop-byte-init c =
-    let item = c.in-ok-first.ensures.item in
+    let item = c.in_ok-first.ensures.item in
     (numeral_plain c.args.text.now (search rules) (search rules), refl, omega arith)
 
 pub loop-byte-preserved : goal.loop-byte-preserved
@@ -17,15 +17,15 @@ loop-byte-preserved c =
     let in' : i < length bs = c.loop-byte-test.true in
     let old = c.loop-byte.invariant in
     let grown = c.min-value.ensures ∙ ap (λ x. min (10 * c.loop-byte.value + x) (2 ^ 32)) c.from.ensures in (
-      digits_more bs i in' (sym c.is-ascii-digit.ensures.value ∙ c.if-not-is-ascii-digit.false) ∙ old.0,
+      digits_more bs i in' (sym c.is_ascii_digit.ensures.value ∙ c.if-not-is_ascii_digit.false) ∙ old.0,
       ap (λ n. min (value_after n (drop (i + 1) bs)) (2 ^ 32)) grown ∙ value_more (2 ^ 32) c.loop-byte.value bs i in' ∙ old.1,
       omega arith,
     )
 
-pub returns-then-not-is-ascii-digit : goal.returns-then-not-is-ascii-digit
-returns-then-not-is-ascii-digit c =
+pub returns-then-not-is_ascii_digit : goal.returns-then-not-is_ascii_digit
+returns-then-not-is_ascii_digit c =
     let bs = c.args.text.now in
-    let none = digits_stop bs c.loop-byte.byte-index c.loop-byte-test.true (sym c.is-ascii-digit.ensures.value ∙ c.if-not-is-ascii-digit.true) in
+    let none = digits_stop bs c.loop-byte.byte-index c.loop-byte-test.true (sym c.is_ascii_digit.ensures.value ∙ c.if-not-is_ascii_digit.true) in
     rw (sym c.loop-byte.invariant.0 ∙ none)
 
 pub returns : goal.returns

@@ -11,8 +11,8 @@ returns-in-Ok c =
     let whole =
     ap drawing_from c.in-Some.ensures.0 ∙ drawing_is c.in-Some.head.now c.in-Some.rest.now
     ∙ ap (λ x. with_edges x (edges_from 2 (lines c.in-Some.rest.now))) (sym c.in-Ok.ensures.said) in
-    let said : Tells c.read-edges.result (drawing_of c.args.text.now) = subst (Tells c.read-edges.result) (sym whole) c.read-edges.ensures in
-    record { said = said; written = drawing_only c.args.text.now c.read-edges.result said }
+    let said : Tells c.read_edges.result (drawing_of c.args.text.now) = subst (Tells c.read_edges.result) (sym whole) c.read_edges.ensures in
+    record { said = said; written = drawing_only c.args.text.now c.read_edges.result said }
 
 pub returns-in-Err : goal.returns-in-Err
 returns-in-Err c =
@@ -21,7 +21,7 @@ returns-in-Err c =
     ∙ ap (λ x. with_edges x (edges_from 2 (lines c.in-Some.rest.now))) (sym c.in-Err.ensures.said) in
     record { said = said; written = drawing_only c.args.text.now (Err (Line 1 c.in-Err.reason)) said }
 
-pub returns-in-default : goal.returns-in-default
-returns-in-default c =
-    let said = ap drawing_from c.in-default.ensures in
+pub returns-in_default : goal.returns-in_default
+returns-in_default c =
+    let said = ap drawing_from c.in_default.ensures in
     record { said = said; written = drawing_only c.args.text.now (Err (Line 1 HeadForm)) said }

@@ -10,7 +10,7 @@ loop-line-preserved c =
     let room : length (vec_items c.loop-line.edges) < 4096 = omega (arith, c.loop-line.edges.ok.0) in
     one_pushed c.loop-line.invariant c.in-Some.line.now c.in-Some.after.now c.in-Some.ensures.0
     (vec_items c.push.new.self) (vec_items c.push-in-Ok.new.self) c.in-Ok.drawn c.in-Ok.ensures.said room
-    c.in-ok-push.ensures.items c.in-ok-push-2.ensures.items
+    c.in_ok-push-in-Ok.ensures.items c.in_ok-push-in-Ok-2.ensures.items
 
 pub returns-in-Ok-2 : goal.returns-in-Ok-2
 returns-in-Ok-2 c =
@@ -27,13 +27,13 @@ returns-in-Err c =
     (refused c.loop-line.invariant c.in-Some.line.now c.in-Some.after.now c.in-Some.ensures.0 c.in-Err.reason c.in-Err.ensures.said
     ∙ ap (λ (k : ℕ). Err (k + 2, c.in-Err.reason)) long)
 
-pub returns-then-is-empty : goal.returns-then-is-empty
-returns-then-is-empty c =
-    let none = eqb-true (length c.loop-line.rest.now) 0 (sym c.if-is-empty.ensures) in
-    ap (with_edges (Ok c.args.exponent)) (all_read c.loop-line.invariant c.in-default.ensures none)
+pub returns-then-is_empty : goal.returns-then-is_empty
+returns-then-is_empty c =
+    let none = eqb-true (length c.loop-line.rest.now) 0 (sym c.if-is_empty.ensures) in
+    ap (with_edges (Ok c.args.exponent)) (all_read c.loop-line.invariant c.in_default.ensures none)
 
-pub returns-else-is-empty : goal.returns-else-is-empty
-returns-else-is-empty c =
-    let long : length (vec_items c.loop-line.edges) ≡ c.len-else-is-empty.result = omega (arith, c.loop-line.edges.ok.0) in
-    let some = eqb-false (length c.loop-line.rest.now) 0 (sym c.if-is-empty.ensures) in
-    ap (with_edges (Ok c.args.exponent)) (cut_off c.loop-line.invariant c.in-default.ensures some ∙ ap (λ (k : ℕ). Err (k + 2, EdgeForm)) long)
+pub returns-else-is_empty : goal.returns-else-is_empty
+returns-else-is_empty c =
+    let long : length (vec_items c.loop-line.edges) ≡ c.len-else-is_empty.result = omega (arith, c.loop-line.edges.ok.0) in
+    let some = eqb-false (length c.loop-line.rest.now) 0 (sym c.if-is_empty.ensures) in
+    ap (with_edges (Ok c.args.exponent)) (cut_off c.loop-line.invariant c.in_default.ensures some ∙ ap (λ (k : ℕ). Err (k + 2, EdgeForm)) long)
