@@ -14,7 +14,7 @@ returns-then-s c =
     let fa = coordinate_fits c.args.s.a.x c.args.s.a.wide in
     let fb = coordinate_fits c.args.s.b.x c.args.s.b.wide in
     let e : c.args.s.a.x ≡ c.args.s.b.x = omega (arith, ints, c.if-s.true) in
-    c.requires.1 ∙ sym (upright_column (layout_of c.args.layout) (edge_of c.args.s) e)
+    c.requires.first_value ∙ sym (upright_column (layout_of c.args.layout) (edge_of c.args.s) e)
 
 pub returns-else-s : goal.returns-else-s
 returns-else-s c =

@@ -10,18 +10,22 @@ use Rattle.grid.proofs.laying.lay.Goals as goal
 pub loop-k-init : goal.loop-k-init
 loop-k-init c = ap (λ (n : ℕ). contents (take n c.args.table.now)) (add-zero c.args.used) ∙ sym (append-nil (contents (take c.args.used c.args.table.now)))
 
-pub fragment-in-requires : goal.fragment-in-requires
-fragment-in-requires c =
+pub fragment_in-requires : goal.fragment_in-requires
+fragment_in-requires c =
     let k = c.loop-k-test.true in
     let e = c.requires.ends in
     let s = c.requires.starts in
-    (record { begins = c.requires.begins; after = omega arith; until = omega arith; few = c.requires.few }, s, omega arith)
+    record {
+      has_column = record { begins = c.requires.begins; after = omega arith; until = omega arith; few = c.requires.few };
+      first_value = s;
+      last_value = omega arith;
+    }
 
 pub loop-k-preserved : goal.loop-k-preserved
 loop-k-preserved c =
     let h : c.args.used + c.loop-k.k < length c.loop-k.table = omega (arith, c.requires.room, c.loop-k-test.true, c.loop-k.auto.table) in
-    laid_more c.loop-k.table c.args.table.now c.fragment-in.result c.args.used c.loop-k.k c.args.first
-    (laid_in (layout_of c.args.layout) c.args.index (edge_of c.args.s)) h c.fragment-in.ensures c.loop-k.invariant
+    laid_more c.loop-k.table c.args.table.now c.fragment_in.result c.args.used c.loop-k.k c.args.first
+    (laid_in (layout_of c.args.layout) c.args.index (edge_of c.args.s)) h c.fragment_in.ensures c.loop-k.invariant
 
 pub returns : goal.returns
 unfolding laid_one

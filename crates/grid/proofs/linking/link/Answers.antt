@@ -4,33 +4,33 @@ use Rattle.grid.proofs.Links.{Linking, linking_none, linking_more, linking_narro
 use Rattle.grid.proofs.linking.link.Goals as goal
 
 pub loop-k-init : goal.loop-k-init
-loop-k-init c = linking_none c.args.fragments.now c.requires.0
+loop-k-init c = linking_none c.args.fragments.now c.requires.fragments_len_bound
 
-pub offset-bounds-heads-fragment : goal.offset-bounds-heads-fragment
-offset-bounds-heads-fragment c =
-    record { fits = omega (arith, linking_narrow c.index-fragments-k.result c.loop-k.invariant c.requires.1 c.loop-k-test.true c.index-fragments-k.is) }
+pub offset_bounds-heads-fragment : goal.offset_bounds-heads-fragment
+offset_bounds-heads-fragment c =
+    record { fits = omega (arith, linking_narrow c.index-fragments-k.result c.loop-k.invariant c.requires.narrow c.loop-k-test.true c.index-fragments-k.is) }
 
 pub bounds-heads-fragment : goal.bounds-heads-fragment
-bounds-heads-fragment c = linking_narrow c.index-fragments-k.result c.loop-k.invariant c.requires.1 c.loop-k-test.true c.index-fragments-k.is
+bounds-heads-fragment c = linking_narrow c.index-fragments-k.result c.loop-k.invariant c.requires.narrow c.loop-k-test.true c.index-fragments-k.is
 
-pub offset-bounds-heads-fragment-in-loop-k : goal.offset-bounds-heads-fragment-in-loop-k
-offset-bounds-heads-fragment-in-loop-k c =
-    record { fits = omega (arith, linking_narrow c.index-fragments-k.result c.loop-k.invariant c.requires.1 c.loop-k-test.true c.index-fragments-k.is) }
+pub offset_bounds-heads-fragment-in-loop-k : goal.offset_bounds-heads-fragment-in-loop-k
+offset_bounds-heads-fragment-in-loop-k c =
+    record { fits = omega (arith, linking_narrow c.index-fragments-k.result c.loop-k.invariant c.requires.narrow c.loop-k-test.true c.index-fragments-k.is) }
 
 pub bounds-heads-fragment-in-loop-k : goal.bounds-heads-fragment-in-loop-k
-bounds-heads-fragment-in-loop-k c = linking_narrow c.index-fragments-k.result c.loop-k.invariant c.requires.1 c.loop-k-test.true c.index-fragments-k.is
+bounds-heads-fragment-in-loop-k c = linking_narrow c.index-fragments-k.result c.loop-k.invariant c.requires.narrow c.loop-k-test.true c.index-fragments-k.is
 
 pub loop-k-preserved : goal.loop-k-preserved
 loop-k-preserved c =
-    let short : length c.loop-k.fragments ≤ none = omega (arith, c.loop-k.auto.fragments, c.requires.0) in
+    let short : length c.loop-k.fragments ≤ none = omega (arith, c.loop-k.auto.fragments, c.requires.fragments_len_bound) in
     let next : suc (c.loop-k.k - 1) ≡ c.loop-k.k = omega (arith, c.loop-k-test.true) in
-    linking_more c.args.fragments.now c.loop-k.fragments c.loop-k.heads c.loop-k.k (c.loop-k.k - 1) c.index-fragments-k.result c.linked-to.result
-    c.loop-k.invariant short next c.index-fragments-k.is c.linked-to.ensures.same c.linked-to.ensures.link
-    (linking_narrow c.index-fragments-k.result c.loop-k.invariant c.requires.1 c.loop-k-test.true c.index-fragments-k.is)
+    linking_more c.args.fragments.now c.loop-k.fragments c.loop-k.heads c.loop-k.k (c.loop-k.k - 1) c.index-fragments-k.result c.linked_to.result
+    c.loop-k.invariant short next c.index-fragments-k.is c.linked_to.ensures.same c.linked_to.ensures.link
+    (linking_narrow c.index-fragments-k.result c.loop-k.invariant c.requires.narrow c.loop-k-test.true c.index-fragments-k.is)
 
 pub returns : goal.returns
 returns c =
-    let short : length c.loop-k.fragments ≤ none = omega (arith, c.loop-k.auto.fragments, c.requires.0) in
+    let short : length c.loop-k.fragments ≤ none = omega (arith, c.loop-k.auto.fragments, c.requires.fragments_len_bound) in
     let nought : c.loop-k.k ≡ 0 = omega (arith, c.loop-k-test.false) in
     record {
       same = c.loop-k.invariant.same;

@@ -11,8 +11,8 @@ fits c =
     subst (λ (z : ℤ). SFits w32 z) (sym c.pos.ensures)
     (between_fits c.args.s.a.x c.args.s.b.x (border (layout_of c.args.layout) c.args.i) c.args.s.a.wide c.args.s.b.wide w.from w.to)
 
-pub overflow-cast-result : goal.overflow-cast-result
-overflow-cast-result c = narrow c.pos.result (fits c)
+pub overflow_cast-result : goal.overflow_cast-result
+overflow_cast-result c = narrow c.pos.result (fits c)
 
 pub returns : goal.returns
 returns c = narrowed c.pos.result (fits c) ∙ c.pos.ensures

@@ -29,8 +29,8 @@ returns-in-None c =
     let hs = c.args.heads.now in
     let l = layout_of c.args.layout in
     let s = subst (λ (state : WalkState). Standing qs hs state) c.in-Column.is c.requires.stands in
-    subst (λ (state : WalkState). Stepped qs hs l state c.at-borders.result) (sym c.in-Column.is)
-    (column_none qs hs l s.0 c.in-Column.at c.begin-first.result c.at-borders.result c.in-None.ensures c.begin-first.ensures c.at-borders.ensures)
+    subst (λ (state : WalkState). Stepped qs hs l state c.at_borders.result) (sym c.in-Column.is)
+    (column_none qs hs l s.0 c.in-Column.at c.begin-first.result c.at_borders.result c.in-None.ensures c.begin-first.ensures c.at_borders.ensures)
 
 pub returns-in-Filling : goal.returns-in-Filling
 returns-in-Filling c =

@@ -25,7 +25,7 @@ returns-then-passes c =
       met_placed qs hs c.requires.linked l c.args.stage at p q c.loop-at.invariant.0 c.if-at-lt-NONE.true c.index-table-at.is c.index-table-at-then-at-lt-NONE.is,
       sym c.loop-at.invariant.1
           ∙ met_passes qs hs c.requires.linked l c.args.stage at p q c.loop-at.invariant.0 c.if-at-lt-NONE.true c.index-table-at.is c.index-table-at-then-at-lt-NONE.is (sym c.passes.ensures ∙ c.if-passes.true)
-          ∙ ap (λ (x : Pair). x ∷ rest_pairs l c.args.stage (contents qs) (record { column = at.column; first = at.first; second = q.next })) (sym c.in-order.ensures),
+          ∙ ap (λ (x : Pair). x ∷ rest_pairs l c.args.stage (contents qs) (record { column = at.column; first = at.first; second = q.next })) (sym c.in_order.ensures),
     )
 
 pub loop-at-preserved-else-passes : goal.loop-at-preserved-else-passes

@@ -31,23 +31,23 @@ returns-in-Columns c =
     (partnered_columns qs c.args.heads.now c.requires.linked (layout_of c.args.layout) c.args.column c.args.first c.index-table-first.result h
     (c.requires.stands ∙ ap (λ (stage : Stage). first_of stage c.args.column) s) c.index-table-first.is)
 
-pub returns-then-stands-at : goal.returns-then-stands-at
-returns-then-stands-at c =
+pub returns-then-stands_at : goal.returns-then-stands_at
+returns-then-stands_at c =
     let qs = c.args.table.now in
     let l = layout_of c.args.layout in
     let s = c.in-Borders.is in
     let k = subst (λ (stage : Stage). c.args.column < limit stage) s c.requires.few in
     subst (λ (stage : Stage). Partnered l stage (contents qs) c.args.column c.args.first (get_or c.args.heads.now c.args.column 0)) (sym s)
     (partnered_border qs c.args.heads.now c.requires.linked l c.args.column c.args.first (omega arith)
-    (tested l qs c.args.column c.args.first c.index-table-first.result c.pos.result c.stands-at.result c.requires.inside c.index-table-first.is c.pos.type-inv c.pos.ensures c.stands-at.ensures
-    ∙ c.if-stands-at.true))
+    (tested l qs c.args.column c.args.first c.index-table-first.result c.pos.result c.stands_at.result c.requires.inside c.index-table-first.is c.pos.type_inv c.pos.ensures c.stands_at.ensures
+    ∙ c.if-stands_at.true))
 
-pub returns-else-stands-at : goal.returns-else-stands-at
-returns-else-stands-at c =
+pub returns-else-stands_at : goal.returns-else-stands_at
+returns-else-stands_at c =
     let qs = c.args.table.now in
     let l = layout_of c.args.layout in
     let s = c.in-Borders.is in
     subst (λ (stage : Stage). Partnered l stage (contents qs) c.args.column c.args.first none) (sym s)
     (partnered_none qs c.args.heads.now c.requires.linked l c.args.column c.args.first
-    (tested l qs c.args.column c.args.first c.index-table-first.result c.pos.result c.stands-at.result c.requires.inside c.index-table-first.is c.pos.type-inv c.pos.ensures c.stands-at.ensures
-    ∙ c.if-stands-at.false))
+    (tested l qs c.args.column c.args.first c.index-table-first.result c.pos.result c.stands_at.result c.requires.inside c.index-table-first.is c.pos.type_inv c.pos.ensures c.stands_at.ensures
+    ∙ c.if-stands_at.false))

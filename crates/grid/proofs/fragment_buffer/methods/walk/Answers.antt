@@ -17,10 +17,14 @@ pub link-requires : goal.link-requires
 link-requires c =
     let fs = c.args.fragments.now in
     let n : length (take c.args.used fs) ≤ 524288 = omega (arith, length-take c.args.used fs, c.requires.room) in
-    subst (λ (k : ℕ). (length (take k fs) ≤ 524288) × Narrow (contents (take k fs))) (sym (sub-zero c.args.used)) (n, c.requires.narrow)
+    let z = sym (sub-zero c.args.used) in
+    record {
+      fragments_len_bound = subst (λ (k : ℕ). length (take k fs) ≤ 524288) z n;
+      narrow = subst (λ (k : ℕ). Narrow (contents (take k fs))) z c.requires.narrow;
+    }
 
-pub first-state-begun-requires : goal.first-state-begun-requires
-first-state-begun-requires c =
+pub first_state-begun-requires : goal.first_state-begun-requires
+first_state-begun-requires c =
     subst (λ (qs : List Fragment). Linked qs c.link.result) (sym (part_is c.args.used c.args.fragments.now c.link.new.fragments _ c.requires.room c.link.auto.fragments)) c.link.ensures.linked
 
 pub returns-in-Filling : goal.returns-in-Filling
@@ -34,11 +38,11 @@ returns-in-Filling c =
     let same : contents (take used exit) ≡ contents (take used entry) =
     ap (λ (k : ℕ). contents (take k exit)) (sym z) ∙ ap contents p ∙ c.link.ensures.same ∙ ap (λ (k : ℕ). contents (take k entry)) z in
     subst (λ (state : WalkState). Walked used l state entry exit c.link.result c.step.result) (sym c.in-Filling.is)
-    (walked_begun used l entry exit c.link.result c.first-state-begun.result c.step.result same
-    (subst (λ (k : ℕ). Started (take k exit) c.link.result l c.first-state-begun.result) z c.first-state-begun.ensures)
-    (subst (λ (k : ℕ). Stepped (take k exit) c.link.result l c.first-state-begun.result c.step.result) z c.step.ensures))
+    (walked_begun used l entry exit c.link.result c.first_state-begun.result c.step.result same
+    (subst (λ (k : ℕ). Started (take k exit) c.link.result l c.first_state-begun.result) z c.first_state-begun.ensures)
+    (subst (λ (k : ℕ). Stepped (take k exit) c.link.result l c.first_state-begun.result c.step.result) z c.step.ensures))
 
 pub returns : goal.returns
 returns c =
-    walked_on c.args.used (layout_of c.args.layout) c.args.fragments.now c.args.heads.now c.args.state c.step-2.result c.in-default.not-Filling
+    walked_on c.args.used (layout_of c.args.layout) c.args.fragments.now c.args.heads.now c.args.state c.step-2.result c.in_default.not-Filling
     (subst (λ (k : ℕ). Stepped (take k c.args.fragments.now) c.args.heads.now (layout_of c.args.layout) c.args.state c.step-2.result) (sub-zero c.args.used) c.step-2.ensures)

@@ -11,8 +11,8 @@ walk-after-requires c =
     let g = c.args.self.now in
     record { room = known_room g; narrow = known_narrow g; stands = known_standing g }
 
-pub invariant-of-self : goal.invariant-of-self
-invariant-of-self c = (∥∥₁_map c.args.self.now.sound (λ s. sound_walked s c.walk-after.ensures.same c.walk-after.auto.fragments c.walk-after.ensures.stands), tt)
+pub invariant_of-self : goal.invariant_of-self
+invariant_of-self c = record { sound = ∥∥₁_map c.args.self.now.sound (λ s. sound_walked s c.walk-after.ensures.same c.walk-after.auto.fragments c.walk-after.ensures.stands) }
 
 pub returns : goal.returns
 returns c =

@@ -73,72 +73,71 @@ shown_after g e table used s w k = λ i. record {
   capacity = ap (λ (n : ℕ). min n none) k i;
 }
 
-pub returns-in-err-s : goal.returns-in-err-s
-returns-in-err-s c =
+pub returns-in_err-s : goal.returns-in_err-s
+returns-in_err-s c =
     let g = c.args.self.now in
     let e : Edge = record { a = plain_point c.args.a; b = plain_point c.args.b } in
-    let p = err_from_is_err_and c.from-residual.result c.from-residual.ensures.1 in
-    let r = refusal_early grid_need (grid_meaning g) e _ (at_shown g c.is-walking-walking.result e _ c.is-walking-walking.ensures c.in-err-s.ensures) in
+    let p = err_from_is_err_and c.from_residual.result c.from_residual.ensures.1 in
+    let r = refusal_early grid_need (grid_meaning g) e _ (at_shown g c.is_walking-walking.result e _ c.is_walking-walking.ensures c.in_err-s.ensures) in
     record { answers = p.1 ∙ ap Err p.2 ∙ sym (ap show_answer r); leaves = sym (ap (λ x. show_after x e (grid_meaning g)) r) }
 
-pub columns-of-first-requires : goal.columns-of-first-requires
-columns-of-first-requires c =
+pub columns_of-first-requires : goal.columns_of-first-requires
+columns_of-first-requires c =
     let g = c.args.self.now in
     let e : Edge = record { a = plain_point c.args.a; b = plain_point c.args.b } in
-    let w = c.in-ok-s.ensures in
-    record { begins = begins g c.is-walking-walking.result c.in-ok-s.s e w.0 w.1; few = few g c.is-walking-walking.result c.in-ok-s.s e w.0 w.1 }
+    let w = c.in_ok-s.ensures in
+    record { begins = begins g c.is_walking-walking.result c.in_ok-s.s e w.0 w.1; few = few g c.is_walking-walking.result c.in_ok-s.s e w.0 w.1 }
 
-pub overflow-sub-capacity : goal.overflow-sub-capacity
-overflow-sub-capacity c = omega (arith, known_room c.args.self.now, c.min-capacity.ensures)
+pub overflow_sub-capacity : goal.overflow_sub-capacity
+overflow_sub-capacity c = omega (arith, known_room c.args.self.now, c.min-capacity.ensures)
 
 pub returns-then-capacity-self : goal.returns-then-capacity-self
 returns-then-capacity-self c =
     let g = c.args.self.now in
     let e : Edge = record { a = plain_point c.args.a; b = plain_point c.args.b } in
-    let w = c.in-ok-s.ensures in
-    let n = needs_more g c.is-walking-walking.result c.in-ok-s.s e w.0 w.1 c.columns-of-first.result.0 c.columns-of-first.result.1 c.columns-of-first.ensures.starts c.columns-of-first.ensures.ends in
-    let r = refusal_full grid_need (grid_meaning g) e (at_shown g c.is-walking-walking.result e None c.is-walking-walking.ensures w.0) (omega (arith, n, known_room g, c.min-capacity.ensures, c.if-capacity-self.true)) in
+    let w = c.in_ok-s.ensures in
+    let n = needs_more g c.is_walking-walking.result c.in_ok-s.s e w.0 w.1 c.columns_of-first.result.0 c.columns_of-first.result.1 c.columns_of-first.ensures.starts c.columns_of-first.ensures.ends in
+    let r = refusal_full grid_need (grid_meaning g) e (at_shown g c.is_walking-walking.result e None c.is_walking-walking.ensures w.0) (omega (arith, n, known_room g, c.min-capacity.ensures, c.if-capacity-self.true)) in
     record { answers = sym (ap show_answer r ∙ ap (λ k. Err (FinderFull k)) (known_shown g)); leaves = sym (ap (λ x. show_after x e (grid_meaning g)) r) }
 
 pub lay-requires : goal.lay-requires
 lay-requires c =
     let g = c.args.self.now in
     let e : Edge = record { a = plain_point c.args.a; b = plain_point c.args.b } in
-    let w = c.in-ok-s.ensures in
+    let w = c.in_ok-s.ensures in
     record {
-      begins = begins g c.is-walking-walking.result c.in-ok-s.s e w.0 w.1;
-      starts = c.columns-of-first.ensures.starts;
-      ends = c.columns-of-first.ensures.ends;
-      few = few g c.is-walking-walking.result c.in-ok-s.s e w.0 w.1;
+      begins = begins g c.is_walking-walking.result c.in_ok-s.s e w.0 w.1;
+      starts = c.columns_of-first.ensures.starts;
+      ends = c.columns_of-first.ensures.ends;
+      few = few g c.is_walking-walking.result c.in_ok-s.s e w.0 w.1;
       room = omega (arith, known_room g, c.min-capacity.ensures, c.if-capacity-self.false);
-      some = c.columns-of-first.ensures.some;
+      some = c.columns_of-first.ensures.some;
     }
 
-pub invariant-of-self : goal.invariant-of-self
-invariant-of-self c =
+pub invariant_of-self : goal.invariant_of-self
+invariant_of-self c =
     let g = c.args.self.now in
     let e : Edge = record { a = plain_point c.args.a; b = plain_point c.args.b } in
-    let w = c.in-ok-s.ensures in
-    let b = c.is-walking-walking.result in
-    let room : g.used + c.columns-of-first.result.1 ≤ min (length c.lay.new.table) none = omega (arith, known_room g, c.min-capacity.ensures, c.if-capacity-self.false, c.lay.auto.table) in (
-      ∥∥₁_map g.sound (λ s.
-          sound_more (edge_of c.in-ok-s.s) c.columns-of-first.result.1 s (sym c.is-walking-walking.ensures ∙ (passed g b c.in-ok-s.s e w.0 w.1).filling)
-          (passed g b c.in-ok-s.s e w.0 w.1).below (lies g b c.in-ok-s.s e w.0 w.1) (ordered g b c.in-ok-s.s e w.0 w.1) room c.lay.ensures),
-      tt,
-    )
+    let w = c.in_ok-s.ensures in
+    let b = c.is_walking-walking.result in
+    let room : g.used + c.columns_of-first.result.1 ≤ min (length c.lay.new.table) none = omega (arith, known_room g, c.min-capacity.ensures, c.if-capacity-self.false, c.lay.auto.table) in record {
+      sound = ∥∥₁_map g.sound (λ s.
+          sound_more (edge_of c.in_ok-s.s) c.columns_of-first.result.1 s (sym c.is_walking-walking.ensures ∙ (passed g b c.in_ok-s.s e w.0 w.1).filling)
+          (passed g b c.in_ok-s.s e w.0 w.1).below (lies g b c.in_ok-s.s e w.0 w.1) (ordered g b c.in_ok-s.s e w.0 w.1) room c.lay.ensures);
+    }
 
 pub returns : goal.returns
 returns c =
     let g = c.args.self.now in
     let e : Edge = record { a = plain_point c.args.a; b = plain_point c.args.b } in
-    let w = c.in-ok-s.ensures in
-    let b = c.is-walking-walking.result in
-    let n = needs_more g b c.in-ok-s.s e w.0 w.1 c.columns-of-first.result.0 c.columns-of-first.result.1 c.columns-of-first.ensures.starts c.columns-of-first.ensures.ends in
-    let r = refusal_none grid_need (grid_meaning g) e (at_shown g b e None c.is-walking-walking.ensures w.0) (omega (arith, n, known_room g, c.min-capacity.ensures, c.if-capacity-self.false)) in
-    let p = sym c.is-walking-walking.ensures ∙ (passed g b c.in-ok-s.s e w.0 w.1).filling in
-    let shown = edges_more (layout_of g.layout) (contents (take g.used g.fragments.now)) (contents (take (g.used + c.columns-of-first.result.1) c.lay.new.table)) g.shown (edge_of c.in-ok-s.s) (ordered g b c.in-ok-s.s e w.0 w.1) c.lay.ensures
+    let w = c.in_ok-s.ensures in
+    let b = c.is_walking-walking.result in
+    let n = needs_more g b c.in_ok-s.s e w.0 w.1 c.columns_of-first.result.0 c.columns_of-first.result.1 c.columns_of-first.ensures.starts c.columns_of-first.ensures.ends in
+    let r = refusal_none grid_need (grid_meaning g) e (at_shown g b e None c.is_walking-walking.ensures w.0) (omega (arith, n, known_room g, c.min-capacity.ensures, c.if-capacity-self.false)) in
+    let p = sym c.is_walking-walking.ensures ∙ (passed g b c.in_ok-s.s e w.0 w.1).filling in
+    let shown = edges_more (layout_of g.layout) (contents (take g.used g.fragments.now)) (contents (take (g.used + c.columns_of-first.result.1) c.lay.new.table)) g.shown (edge_of c.in_ok-s.s) (ordered g b c.in_ok-s.s e w.0 w.1) c.lay.ensures
     ∙ ap (λ (x : Edge). (grid_meaning g).shown ++ x ∷ []) w.1 in
     record {
       answers = sym (ap show_answer r);
-      leaves = shown_after g e c.lay.new.table (g.used + c.columns-of-first.result.1) shown p c.lay.auto.table ∙ sym (ap (λ x. show_after x e (grid_meaning g)) r);
+      leaves = shown_after g e c.lay.new.table (g.used + c.columns_of-first.result.1) shown p c.lay.auto.table ∙ sym (ap (λ x. show_after x e (grid_meaning g)) r);
     }
