@@ -1,5 +1,5 @@
 -- The marks of a list of edges at the snap exponent s: those of the crossings of all pairs, whoever found them.
-use Rattle.std.specs.Prelude.{◌≡◌, ℕ, ◌<◌, Bool, true, false, ◌≢◌, ◌↔◌, List, length}
+use Rattle.std.specs.Prelude.{◌≡◌, ℕ, ◌<◌, true, false, ◌≢◌, ◌↔◌, List, length}
 use Rattle.table.specs.Listings.{Ordered}
 use Rattle.plane.specs.Points.{Point}
 use Rattle.plane.specs.PointOf.{point_of}

@@ -1,6 +1,5 @@
 -- Points on numbered edges, as crossings mark them, and marks that come to a list.
 use Rattle.std.specs.Prelude.{ℕ, Bool, false, ◌||◌, List, [], ◌∷◌, ◌++◌, map}
-use Rattle.std.specs.Cmp.{pairs}
 use Rattle.std.specs.Ordering.{is_eq, nat_cmp, int_cmp, ordering_then}
 use Rattle.plane.specs.Points.{Point}
 use Rattle.plane.specs.Edges.{Edge}
@@ -21,7 +20,7 @@ spots i ps = map (λ p. record { edge = i; point = p }) ps
 
 -- m marks the spot t
 abbrev pub at? : Spot → LineMark → Bool
-at? t m = is_eq (ordering_then (nat_cmp (mark_key m).0 (t.edge, (t.point.x, t.point.y)).0) (ordering_then (int_cmp (mark_key m).1.0 (t.edge, (t.point.x, t.point.y)).1.0) (int_cmp (mark_key m).1.1 (t.edge, (t.point.x, t.point.y)).1.1)))
+at? t m = is_eq (ordering_then (nat_cmp (mark_key m).0 t.edge) (ordering_then (int_cmp (mark_key m).1.0 t.point.x) (int_cmp (mark_key m).1.1 t.point.y)))
 
 abbrev pub at_one? : List Spot → LineMark → Bool
 at_one? [] m = false
