@@ -1,5 +1,4 @@
 -- The facts about one round and one put, from the crates below, and the laws from them.
-use Rattle.std.proofs.Common.{◌≡◌}
 use Rattle.segm.specs.Counts.{CountKind}
 use Rattle.segm.proofs.Counting.{counting_determined}
 use Rattle.rounds.proofs.Lists.{list_few, list_from, round_balance, put_list}

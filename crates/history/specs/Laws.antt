@@ -11,7 +11,6 @@ use Rattle.segm.specs.Balance.{balance}
 use Rattle.history.specs.Sheets.{Lengths, Page, ends, put_brings, Sound}
 use Rattle.history.specs.Histories.{Call, Answer, Entry, History}
 use Rattle.history.specs.Histories.Call.{put, round, run, read_number, read_edge, read_state}
-use Rattle.history.specs.declared.sheet_state.SheetState.{SheetState}
 use Rattle.history.specs.declared.sheet_state.SheetState.TheVariants.{Clean}
 use Rattle.history.specs.declared.answers.RoundAnswer.{RoundAnswer}
 use Rattle.history.specs.declared.answers.RunFault.{RunFault}

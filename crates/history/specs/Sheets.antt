@@ -1,5 +1,5 @@
 -- What a sheet and its tables hold, and what opening and putting leave and answer.
-use Rattle.std.specs.Prelude.{◌≡◌, ℕ, ◌+◌, ◌-◌, ◌≤◌, min, Bool, false, cond, not, ◌&&◌, ◌||◌, List, [], ◌∷◌, ◌++◌, map, length, replicate, Some, None, Ok, Err, Option, Result, nat_le}
+use Rattle.std.specs.Prelude.{◌≡◌, ℕ, ◌-◌, ◌≤◌, min, Bool, false, cond, not, ◌&&◌, ◌||◌, List, [], ◌∷◌, ◌++◌, map, length, replicate, Some, None, Ok, Err, Option, Result, nat_le}
 use Rattle.std.specs.Ordering.{is_eq}
 use Rattle.table.specs.Listings.{Ordered}
 use Rattle.plane.specs.Points.{Point, before?}
