@@ -18,11 +18,11 @@ returns g c =
     let stops = c.if-marks-gt1.marks in
     let points : map point_at stops ≡ placed e.a e.b (map point_at marks) =
     elim c.if-marks-gt1.branch [
-      | then-marks-gt1 w ↦ subst (λ (l : List LineMark). map point_at l ≡ placed e.a e.b (map point_at marks)) (sym w.marks-is) w.place-marks.ensures
+      | then-marks-gt1 w ↦ subst (λ (l : List LineMark). map point_at l ≡ placed e.a e.b (map point_at marks)) (sym w.marks-is) w.place_marks.ensures
       | else-marks-gt1 w ↦ unplaced e.a e.b marks stops w.if-marks-gt1.false w.marks-is
     ] in
     record {
-      pieces = brings_as K (pieces K e.count e.a (map point_at stops ++ (e.b ∷ []))) (cut K e (map point_at marks)) c.args.room c.args.list.now c.args.used c.join-pieces.new.list c.join-pieces.result
-          (ap (λ (l : List IntPoint). pieces K e.count e.a (l ++ (e.b ∷ []))) points) c.join-pieces.ensures.pieces;
-      within = c.join-pieces.ensures.within;
+      pieces = brings_as K (pieces K e.count e.a (map point_at stops ++ (e.b ∷ []))) (cut K e (map point_at marks)) c.args.room c.args.list.now c.args.used c.join_pieces.new.list c.join_pieces.result
+          (ap (λ (l : List IntPoint). pieces K e.count e.a (l ++ (e.b ∷ []))) points) c.join_pieces.ensures.pieces;
+      within = c.join_pieces.ensures.within;
     }

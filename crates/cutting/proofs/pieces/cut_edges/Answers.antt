@@ -22,43 +22,43 @@ loop-i-preserved g c =
     let i = c.loop-i.i in
     let t = c.loop-i.marks in
     let from = c.loop-i.from in
-    let to = c.marks-end-to.result in
+    let to = c.marks_end-to.result in
     let row = map point_at (between from to t) in
     let s = c.index-edges-i.result in
-    let m = c.marks-end-to.ensures in
-    let ys = c.cut-edge.new.marks in (
-      row_within t ys from to m.behind m.within c.cut-edge.auto.marks,
-      c.in-ok-used.ensures.within,
+    let m = c.marks_end-to.ensures in
+    let ys = c.cut_edge.new.marks in (
+      row_within t ys from to m.behind m.within c.cut_edge.auto.marks,
+      c.in_ok-used.ensures.within,
       λ o.
           let h = c.loop-i.invariant.2 o in
-          let on = rows_points i ms t from to m.behind m.within m.own_val m.next h.0 in (
-            rows_more i ms t from to m.behind m.within m.own_val m.next h.0 (put_mid from (to - from) t ys) (behind_row t ys from to m.behind m.within c.cut-edge.auto.marks),
+          let on = rows_points i ms t from to m.behind m.within m.own m.next h.0 in (
+            rows_more i ms t from to m.behind m.within m.own m.next h.0 (put_mid from (to - from) t ys) (behind_row t ys from to m.behind m.within c.cut_edge.auto.marks),
             joined_then K (cut_from K 0 ms (take i l)) (cut K s row) c.args.room c.args.list.now 0 c.loop-i.list c.loop-i.used h.1
                 (cut_from K 0 ms (take (i + 1) l)) (cut_more K ms l i s c.loop-i-test.true c.index-edges-i.is row on)
-                c.cut-edge.new.list c.in-ok-used.used c.in-ok-used.ensures.pieces,
+                c.cut_edge.new.list c.in_ok-used.used c.in_ok-used.ensures.pieces,
           ),
     )
 
-pub returns-in-err-used : goal.returns-in-err-used
-returns-in-err-used g c =
+pub returns-in_err-used : goal.returns-in_err-used
+returns-in_err-used g c =
     let K = g.C.WindingCount.kind in
     let ms = c.args.marks.now in
     let l = c.args.edges.now in
     let i = c.loop-i.i in
     let t = c.loop-i.marks in
     let from = c.loop-i.from in
-    let to = c.marks-end-to.result in
+    let to = c.marks_end-to.result in
     let row = map point_at (between from to t) in
     let s = c.index-edges-i.result in
-    let m = c.marks-end-to.ensures in
+    let m = c.marks_end-to.ensures in
     record {
       pieces = λ o.
           let h = c.loop-i.invariant.2 o in
-          let on = rows_points i ms t from to m.behind m.within m.own_val m.next h.0 in
-          brings_failed K (cut_from K 0 ms l) c.args.room c.args.list.now 0 _ c.from-residual.result c.from-residual.ensures.0
+          let on = rows_points i ms t from to m.behind m.within m.own m.next h.0 in
+          brings_failed K (cut_from K 0 ms l) c.args.room c.args.list.now 0 _ c.from_residual.result c.from_residual.ensures.0
           (crowded_then K (cut_from K 0 ms (take i l)) (cut K s row) c.args.room c.args.list.now 0 c.loop-i.list c.loop-i.used h.1
-          (length (cut_from K 0 ms l)) (cut_fewer K ms l i s c.loop-i-test.true c.index-edges-i.is row on) c.in-err-used.ensures.pieces);
-      within = MatchResult-from_err c.from-residual.result _ _ c.from-residual.ensures.0 (λ _. tt);
+          (length (cut_from K 0 ms l)) (cut_fewer K ms l i s c.loop-i-test.true c.index-edges-i.is row on) c.in_err-used.ensures.pieces);
+      within = MatchResult-from_err c.from_residual.result _ _ c.from_residual.ensures.0 (λ _. tt);
     }
 
 pub returns : goal.returns

@@ -24,11 +24,11 @@ loop-stop-preserved g c =
       joined_then K (pieces K e.count e.a done) (piece ∷ []) c.args.room c.args.list.now c.args.used c.loop-stop.list c.loop-stop.used c.loop-stop.invariant.1
           (pieces K e.count e.a (map point_at (take (k + 1) stops)))
           (pieces_next K e.count e.a done c.loop-stop.from piece c.loop-stop.invariant.0 s.point c.create.ensures.ends ∙ ap (pieces K e.count e.a) more)
-          c.join-piece.new.list c.in-ok-used.used c.in-ok-used.ensures.pieces,
+          c.join_piece.new.list c.in_ok-used.used c.in_ok-used.ensures.pieces,
     )
 
-pub returns-in-err-used : goal.returns-in-err-used
-returns-in-err-used g c =
+pub returns-in_err-used : goal.returns-in_err-used
+returns-in_err-used g c =
     let K = g.C.WindingCount.kind in
     let e = c.args.edge in
     let stops = c.args.stops.now in
@@ -39,10 +39,10 @@ returns-in-err-used g c =
     let within : k < length stops = c.loop-stop-test.true in
     let few : length done < length all = omega (arith, length-map (take k stops) point_at, length-take-le k stops (omega arith), length_push (map point_at stops) e.b, length-map stops point_at) in
     record {
-      pieces = brings_failed K (pieces K e.count e.a all) c.args.room c.args.list.now c.args.used _ c.from-residual.result c.from-residual.ensures.0
+      pieces = brings_failed K (pieces K e.count e.a all) c.args.room c.args.list.now c.args.used _ c.from_residual.result c.from_residual.ensures.0
           (crowded_then K (pieces K e.count e.a done) (piece ∷ []) c.args.room c.args.list.now c.args.used c.loop-stop.list c.loop-stop.used c.loop-stop.invariant.1
-          (length (pieces K e.count e.a all)) (pieces_fewer K e.count e.a done all piece few) c.in-err-used.ensures.pieces);
-      within = MatchResult-from_err c.from-residual.result _ _ c.from-residual.ensures.0 (λ _. tt);
+          (length (pieces K e.count e.a all)) (pieces_fewer K e.count e.a done all piece few) c.in_err-used.ensures.pieces);
+      within = MatchResult-from_err c.from_residual.result _ _ c.from_residual.ensures.0 (λ _. tt);
     }
 
 pub returns : goal.returns
@@ -59,6 +59,6 @@ returns g c =
           (pieces K e.count e.a all)
           (pieces_next K e.count e.a done c.loop-stop.from piece c.loop-stop.invariant.0 e.b c.create-2.ensures.ends
           ∙ ap (λ l. pieces K e.count e.a (map point_at l ++ (e.b ∷ []))) (take_all k stops c.loop-stop-test.false))
-          c.join-piece-2.new.list c.join-piece-2.result c.join-piece-2.ensures.pieces;
-      within = c.join-piece-2.ensures.within;
+          c.join_piece-2.new.list c.join_piece-2.result c.join_piece-2.ensures.pieces;
+      within = c.join_piece-2.ensures.within;
     }

@@ -11,10 +11,10 @@ pub loop-from-init : goal.loop-from-init
 loop-from-init c = placing_none _ c.args.b.y c.args.marks.now
 
 module _ (c : goal.After-index-marks-to-in-loop-from) where
-  after_is_first : c.if-to-marks.after ≡ first_y (drop c.group-end-to.result c.loop-from.marks) c.args.b.y
+  after_is_first : c.if-to-marks.after ≡ first_y (drop c.group_end-to.result c.loop-from.marks) c.args.b.y
   after_is_first =
       let t = c.loop-from.marks in
-      let to = c.group-end-to.result in
+      let to = c.group_end-to.result in
       sym c.if-to-marks.after-is
       ∙ elim c.if-to-marks.branch [
         | then-to-marks w ↦
@@ -22,29 +22,29 @@ module _ (c : goal.After-index-marks-to-in-loop-from) where
         | else-to-marks w ↦ w.after-is ∙ y_kept c.args.b ∙ sym (first_none t to c.args.b.y w.if-to-marks.false)
       ]
 
-  group_turned : Turned (lt_z c.if-to-marks.after c.loop-from.before) c.loop-from.marks c.if-before-after.marks c.loop-from.from c.group-end-to.result
+  group_turned : Turned (lt_z c.if-to-marks.after c.loop-from.before) c.loop-from.marks c.if-before-after.marks c.loop-from.from c.group_end-to.result
   group_turned =
       let t = c.loop-from.marks in
       let k = c.loop-from.from in
-      let to = c.group-end-to.result in
+      let to = c.group_end-to.result in
       let test = ap₂ lt_z (sym c.if-to-marks.after-is) (sym c.loop-from.before-is) in
       elim c.if-before-after.branch [
         | then-before-after w ↦
             subst (λ b. Turned b t c.if-before-after.marks k to) (sym (test ∙ w.if-before-after.true))
-            (subst (λ u. Turned true t u k to) (sym w.marks-is) (turned_back t k to c.group-end-to.ensures.behind c.group-end-to.ensures.within w.reverse.new.self w.reverse.ensures.after))
+            (subst (λ u. Turned true t u k to) (sym w.marks-is) (turned_back t k to c.group_end-to.ensures.behind c.group_end-to.ensures.within w.reverse.new.self w.reverse.ensures.after))
         | else-before-after w ↦
             subst (λ b. Turned b t c.if-before-after.marks k to) (sym (test ∙ w.if-before-after.false))
-            (subst (λ u. Turned false t u k to) (sym w.marks-is) (turned_not t k to c.group-end-to.ensures.behind c.group-end-to.ensures.within))
+            (subst (λ u. Turned false t u k to) (sym w.marks-is) (turned_not t k to c.group_end-to.ensures.behind c.group_end-to.ensures.within))
       ]
 
 pub loop-from-preserved : goal.loop-from-preserved
 loop-from-preserved c =
     let t = c.loop-from.marks in
-    let to = c.group-end-to.result in
+    let to = c.group_end-to.result in
     let u = c.if-before-after.marks in
     let d = c.index-marks-to-in-loop-from.result in
     placing_more _ c.args.b.y c.args.marks.now t c.loop-from.from c.loop-from.before (placing_as c.loop-from.before-is c.loop-from.invariant) to c.if-to-marks.after u _ d
-    c.group-end-to.ensures.behind c.group-end-to.ensures.within c.group-end-to.ensures.group c.group-end-to.ensures.next
+    c.group_end-to.ensures.behind c.group_end-to.ensures.within c.group_end-to.ensures.group c.group_end-to.ensures.next
     (after_is_first c) c.if-before-after.auto.marks (group_turned c) (y_kept (get_or u (to - 1) d).point)
 
 pub returns : goal.returns

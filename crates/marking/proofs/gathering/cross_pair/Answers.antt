@@ -5,15 +5,15 @@ use Rattle.marking.specs.Gathering.{Crossed}
 use Rattle.marking.proofs.PairSpots.{proper_at, at_number, crossed_as}
 use Rattle.marking.proofs.gathering.cross_pair.Goals as goal
 
-pub returns-in-default : goal.returns-in-default
-returns-in-default g c proper =
+pub returns-in_default : goal.returns-in_default
+returns-in_default g c proper =
     absurd {A = Crossed c.args.radius.current (map ends_of c.args.edges.now) c.args.i c.args.j _}
-    (c.in-default.ensures (proper_at c.args.edges.now c.args.i c.index-edges-i.result c.requires.first c.index-edges-i.is proper))
+    (c.in_default.ensures (proper_at c.args.edges.now c.args.i c.index-edges-i.result c.requires.first c.index-edges-i.is proper))
 
-pub returns-in-default-edge : goal.returns-in-default-edge
-returns-in-default-edge g c proper =
+pub returns-in_default-edge : goal.returns-in_default-edge
+returns-in_default-edge g c proper =
     absurd {A = Crossed c.args.radius.current (map ends_of c.args.edges.now) c.args.i c.args.j _}
-    (c.in-default-edge.ensures (proper_at c.args.edges.now c.args.j c.index-edges-j.result c.requires.second c.index-edges-j.is proper))
+    (c.in_default-edge.ensures (proper_at c.args.edges.now c.args.j c.index-edges-j.result c.requires.second c.index-edges-j.is proper))
 
 pub returns : goal.returns
 returns g c proper =
