@@ -1,4 +1,4 @@
--- How many edges the all_pairs finder has been shown.
+-- How many edges the all-pairs finder has been shown.
 use Rattle.std.proofs.Common.{◌≡◌, length, arith, length-take}
 use Rattle.std.proofs.lemmas.List.{length-map}
 use Rattle.finder.specs.declared.all_pairs.AllPairs.{AllPairs}

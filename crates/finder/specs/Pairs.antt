@@ -1,4 +1,4 @@
--- The all_pairs finder: the pairs of n edges in the order (0, 1), (0, 2), .., then (1, 2), ..
+-- The all-pairs finder: the pairs of n edges in the order (0, 1), (0, 2), .., then (1, 2), ..
 use Rattle.std.specs.Prelude.{◌≡◌, ℕ, zero, suc, ◌+◌, ◌-◌, cond, List, [], ◌∷◌, ◌++◌, map, length, take, nat_lt}
 use Rattle.plane.specs.Edges.{Edge}
 use Rattle.plane.specs.Models.{plain_point}

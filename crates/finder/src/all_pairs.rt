@@ -1,4 +1,4 @@
-//! The all_pairs finder, over a table of the caller's: any two edges are worth a look.
+//! The all-pairs finder, over a table of the caller's: any two edges are worth a look.
 ghost use Rattle.std.specs.Prelude.{◌<◌, ◌≤◌, length};
 
 use crate::int_rect::IntRect;

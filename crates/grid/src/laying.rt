@@ -13,7 +13,7 @@ use plane::x_segment::XSegment;
 
 /// The last column of an edge: the one that its second x ends, or that a vertical stands in.
 fn last_of(layout: GridLayout, s: XSegment, first: usize) -> usize
-    requires layout_bound { (layout_of layout).left ≤ℤ s.a.x }
+    requires begins { (layout_of layout).left ≤ℤ s.a.x }
     requires first_value { first ≡ first_column (layout_of layout) (edge_of s) }
     ensures { result ≡ last_column (layout_of layout) (edge_of s) }
 {

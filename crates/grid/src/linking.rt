@@ -26,7 +26,7 @@ fn linked_to(fragment: Fragment, next: usize) -> Fragment
 
 /// Links the fragments of each column, and tells the first of each.
 pub(crate) fn link(fragments: &mut [Fragment]) -> [usize; COLUMNS]
-    requires fragments_len_bound { length fragments.old ≤ 524288 }
+    requires short { length fragments.old ≤ 524288 }
     requires narrow { Narrow (contents fragments.old) }
     ensures same { contents fragments.new ≡ contents fragments.old }
     ensures linked { Linked fragments.new result }

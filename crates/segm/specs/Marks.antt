@@ -11,7 +11,7 @@ mark_key m = (m.index, (m.point.x, m.point.y))
 
 -- index first, then point
 abbrev pub mark_order : LineMark → LineMark → Ordering
-mark_order m n = ordering_then (nat_cmp (mark_key m).0 (mark_key n).0) (ordering_then (int_cmp (mark_key m).1.0 (mark_key n).1.0) (int_cmp (mark_key m).1.1 (mark_key n).1.1))
+mark_order m n = ordering_then (nat_cmp m.index n.index) (ordering_then (int_cmp m.point.x n.point.x) (int_cmp m.point.y n.point.y))
 
 abbrev pub blank_mark : LineMark
 blank_mark = record { index = 0; point = origin }

@@ -1,4 +1,4 @@
-//! The calls of the all_pairs finder.
+//! The calls of the all-pairs finder.
 ghost use Rattle.std.specs.Prelude.{◌≡◌, ◌<◌, length};
 ghost use Rattle.finder.specs.Finders.{MayCome, rest, unstarted};
 ghost use Rattle.finder.specs.Pairs.{pairs_meaning, pairs_need, pairs_walks, pairs_from};

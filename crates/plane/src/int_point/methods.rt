@@ -39,8 +39,8 @@ impl IntPoint {
 
     /// The point that is so far off, within range.
     pub(crate) fn moved(self, x: i64, y: i64) -> IntPoint
-        requires in_range { InRange (self.x +ℤ x) }
-        requires in_range_2 { InRange (self.y +ℤ y) }
+        requires x_in_range { InRange (self.x +ℤ x) }
+        requires y_in_range { InRange (self.y +ℤ y) }
         ensures { point_of result ≡ record { x = self.x +ℤ x; y = self.y +ℤ y } }
     {
         IntPoint {

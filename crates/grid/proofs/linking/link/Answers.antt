@@ -4,7 +4,7 @@ use Rattle.grid.proofs.Links.{Linking, linking_none, linking_more, linking_narro
 use Rattle.grid.proofs.linking.link.Goals as goal
 
 pub loop-k-init : goal.loop-k-init
-loop-k-init c = linking_none c.args.fragments.now c.requires.fragments_len_bound
+loop-k-init c = linking_none c.args.fragments.now c.requires.short
 
 pub offset_bounds-heads-fragment : goal.offset_bounds-heads-fragment
 offset_bounds-heads-fragment c =
@@ -22,7 +22,7 @@ bounds-heads-fragment-in-loop-k c = linking_narrow c.index-fragments-k.result c.
 
 pub loop-k-preserved : goal.loop-k-preserved
 loop-k-preserved c =
-    let short : length c.loop-k.fragments ≤ none = omega (arith, c.loop-k.auto.fragments, c.requires.fragments_len_bound) in
+    let short : length c.loop-k.fragments ≤ none = omega (arith, c.loop-k.auto.fragments, c.requires.short) in
     let next : suc (c.loop-k.k - 1) ≡ c.loop-k.k = omega (arith, c.loop-k-test.true) in
     linking_more c.args.fragments.now c.loop-k.fragments c.loop-k.heads c.loop-k.k (c.loop-k.k - 1) c.index-fragments-k.result c.linked_to.result
     c.loop-k.invariant short next c.index-fragments-k.is c.linked_to.ensures.same c.linked_to.ensures.link
@@ -30,7 +30,7 @@ loop-k-preserved c =
 
 pub returns : goal.returns
 returns c =
-    let short : length c.loop-k.fragments ≤ none = omega (arith, c.loop-k.auto.fragments, c.requires.fragments_len_bound) in
+    let short : length c.loop-k.fragments ≤ none = omega (arith, c.loop-k.auto.fragments, c.requires.short) in
     let nought : c.loop-k.k ≡ 0 = omega (arith, c.loop-k-test.false) in
     record {
       same = c.loop-k.invariant.same;

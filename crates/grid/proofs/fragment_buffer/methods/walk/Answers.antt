@@ -19,7 +19,7 @@ link-requires c =
     let n : length (take c.args.used fs) ≤ 524288 = omega (arith, length-take c.args.used fs, c.requires.room) in
     let z = sym (sub-zero c.args.used) in
     record {
-      fragments_len_bound = subst (λ (k : ℕ). length (take k fs) ≤ 524288) z n;
+      short = subst (λ (k : ℕ). length (take k fs) ≤ 524288) z n;
       narrow = subst (λ (k : ℕ). Narrow (contents (take k fs))) z c.requires.narrow;
     }
 

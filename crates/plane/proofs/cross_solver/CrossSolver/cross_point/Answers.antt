@@ -35,7 +35,7 @@ moved-requires c =
     c.between-along.ensures.x c.between-along.ensures.y c.numerator-n.ensures.value c.denominator-d.ensures.value
     (simp to_z-of_z at c.along_x.ensures) (simp to_z-of_z at c.along_y.ensures) in
     let r = moved_ranged (edge_of c.args.target.now) (edge_of c.args.other.now) _ (sheet_of c.args.target.now) (sheet_of c.args.other.now) c.requires p in
-    record { in_range = simp to_z-of_z r.wide; in_range_2 = simp to_z-of_z r.high }
+    record { x_in_range = simp to_z-of_z r.wide; y_in_range = simp to_z-of_z r.high }
 
 pub returns : goal.returns
 returns c =

@@ -13,10 +13,10 @@ pub returns : goal.returns
 returns g c =
     let K = g.C.WindingCount.kind in
     let e = c.args.edges.now in let s = c.args.spare.now in let m = c.args.marks.now in
-    let e' = c.blank-all.new.table in let s' = c.blank-all-2.new.table in let m' = c.blank-all-3.new.table in
-    let edges : length e' ≡ length e = ap length c.blank-all.ensures ∙ length-replicate (length e) (blank_segment K) in
-    let spare : length s' ≡ length s = ap length c.blank-all-2.ensures ∙ length-replicate (length s) (blank_segment K) in
-    let marks : length m' ≡ length m = ap length c.blank-all-3.ensures ∙ length-replicate (length m) blank_mark in
+    let e' = c.blank_all.new.table in let s' = c.blank_all-2.new.table in let m' = c.blank_all-3.new.table in
+    let edges : length e' ≡ length e = ap length c.blank_all.ensures ∙ length-replicate (length e) (blank_segment K) in
+    let spare : length s' ≡ length s = ap length c.blank_all-2.ensures ∙ length-replicate (length s) (blank_segment K) in
+    let marks : length m' ≡ length m = ap length c.blank_all-3.ensures ∙ length-replicate (length m) blank_mark in
     let n : Page g.row.C.Denot = record { edges = []; state = Raw; exponent = c.new.result.current; start = c.args.start; step = c.new.result.step; lengths = record { edges = length e'; spare = length s'; marks = length m' } } in
     let opened : n ≡ opening (record { edges = length e; spare = length s; marks = length m }) c.args.start c.args.step = λ i. record {
       edges = [];
@@ -32,9 +32,9 @@ returns g c =
       held = record {
         sound = subst (Sound K) (sym opened) (opening_sound K (facts K) (record { edges = length e; spare = length s; marks = length m }) c.args.start c.args.step);
         tables = λ i. record {
-          edges = (c.blank-all.ensures ∙ ap (λ (k : ℕ). replicate k (blank_segment K)) first) i;
-          spare = (c.blank-all-2.ensures ∙ ap (λ (k : ℕ). replicate k (blank_segment K)) (sym spare)) i;
-          marks = (c.blank-all-3.ensures ∙ ap (λ (k : ℕ). replicate k blank_mark) (sym marks)) i;
+          edges = (c.blank_all.ensures ∙ ap (λ (k : ℕ). replicate k (blank_segment K)) first) i;
+          spare = (c.blank_all-2.ensures ∙ ap (λ (k : ℕ). replicate k (blank_segment K)) (sym spare)) i;
+          marks = (c.blank_all-3.ensures ∙ ap (λ (k : ℕ). replicate k blank_mark) (sym marks)) i;
         };
       };
       laws = history_laws K;

@@ -15,10 +15,10 @@ returns g c =
     let K = g.C.WindingCount.kind in
     let t = c.args.self.now in
     let e = c.replace-edges.result.now in let s = c.replace-spare.result.now in let m = c.replace-marks.result.now in
-    let e' = c.blank-all.new.table in let s' = c.blank-all-2.new.table in let m' = c.blank-all-3.new.table in
-    let edges : length e' ≡ length e = ap length c.blank-all.ensures ∙ length-replicate (length e) (blank_segment K) in
-    let spare : length s' ≡ length s = ap length c.blank-all-2.ensures ∙ length-replicate (length s) (blank_segment K) in
-    let marks : length m' ≡ length m = ap length c.blank-all-3.ensures ∙ length-replicate (length m) blank_mark in
+    let e' = c.blank_all.new.table in let s' = c.blank_all-2.new.table in let m' = c.blank_all-3.new.table in
+    let edges : length e' ≡ length e = ap length c.blank_all.ensures ∙ length-replicate (length e) (blank_segment K) in
+    let spare : length s' ≡ length s = ap length c.blank_all-2.ensures ∙ length-replicate (length s) (blank_segment K) in
+    let marks : length m' ≡ length m = ap length c.blank_all-3.ensures ∙ length-replicate (length m) blank_mark in
     let own_edges : length e ≡ length t.edges.now = ap (λ (r : Bor (List (Segment g.row.C.Denot))). length r.now) c.replace-edges.ensures.value in
     let own_spare : length s ≡ length t.spare.now = ap (λ (r : Bor (List (Segment g.row.C.Denot))). length r.now) c.replace-spare.ensures.value in
     let own_marks : length m ≡ length t.marks.now = ap (λ (r : Bor (List LineMark)). length r.now) c.replace-marks.ensures.value in
@@ -37,9 +37,9 @@ returns g c =
       held = record {
         sound = subst (Sound K) (sym opened) (opening_sound K (facts K) (record { edges = length t.edges.now; spare = length t.spare.now; marks = length t.marks.now }) c.args.start c.args.step);
         tables = λ i. record {
-          edges = (c.blank-all.ensures ∙ ap (λ (k : ℕ). replicate k (blank_segment K)) first) i;
-          spare = (c.blank-all-2.ensures ∙ ap (λ (k : ℕ). replicate k (blank_segment K)) (sym spare)) i;
-          marks = (c.blank-all-3.ensures ∙ ap (λ (k : ℕ). replicate k blank_mark) (sym marks)) i;
+          edges = (c.blank_all.ensures ∙ ap (λ (k : ℕ). replicate k (blank_segment K)) first) i;
+          spare = (c.blank_all-2.ensures ∙ ap (λ (k : ℕ). replicate k (blank_segment K)) (sym spare)) i;
+          marks = (c.blank_all-3.ensures ∙ ap (λ (k : ℕ). replicate k blank_mark) (sym marks)) i;
         };
       };
     }
