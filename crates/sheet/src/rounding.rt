@@ -74,9 +74,9 @@ fn move_list<C: WindingCount>(
     edges: &mut [Segment<C>],
     used: usize,
 )
-    requires used_in_bounds { used ≤ length edges.old }
-    requires count_in_bounds { count ≤ length edges.old }
-    requires count_in_bounds_2 { count ≤ length spare.old }
+    requires used_in_edges { used ≤ length edges.old }
+    requires count_in_edges { count ≤ length edges.old }
+    requires count_in_spare { count ≤ length spare.old }
     ensures { Moved C.WindingCount.kind spare.old count edges.old used spare.new edges.new }
 {
     copy_places(front(spare, count), edges);

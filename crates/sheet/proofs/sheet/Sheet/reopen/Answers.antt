@@ -1,4 +1,5 @@
-use Rattle.std.proofs.Common.{◌≡◌, ℕ, ◌-◌, List, [], length, replicate, sym, refl, ap, ◌∙◌, subst, arith, Bor}
+use Rattle.std.proofs.Common.{◌≡◌, ℕ, ◌-◌, List, [], length, replicate, sym, refl, ap, ◌∙◌, subst, arith}
+use denote.Ref.{MutBor}
 use lib.ListN.{length-replicate}
 use Rattle.segm.specs.Marks.{blank_mark}
 use Rattle.segm.specs.Segments.{blank_segment}
@@ -19,9 +20,9 @@ returns g c =
     let edges : length e' ≡ length e = ap length c.blank_all.ensures ∙ length-replicate (length e) (blank_segment K) in
     let spare : length s' ≡ length s = ap length c.blank_all-2.ensures ∙ length-replicate (length s) (blank_segment K) in
     let marks : length m' ≡ length m = ap length c.blank_all-3.ensures ∙ length-replicate (length m) blank_mark in
-    let own_edges : length e ≡ length t.edges.now = ap (λ (r : Bor (List (Segment g.row.C.Denot))). length r.now) c.replace-edges.ensures.value in
-    let own_spare : length s ≡ length t.spare.now = ap (λ (r : Bor (List (Segment g.row.C.Denot))). length r.now) c.replace-spare.ensures.value in
-    let own_marks : length m ≡ length t.marks.now = ap (λ (r : Bor (List LineMark)). length r.now) c.replace-marks.ensures.value in
+    let own_edges : length e ≡ length t.edges.now = ap (λ (r : MutBor (List (Segment g.row.C.Denot))). length r.now) c.replace-edges.ensures.value in
+    let own_spare : length s ≡ length t.spare.now = ap (λ (r : MutBor (List (Segment g.row.C.Denot))). length r.now) c.replace-spare.ensures.value in
+    let own_marks : length m ≡ length t.marks.now = ap (λ (r : MutBor (List LineMark)). length r.now) c.replace-marks.ensures.value in
     let n : Page g.row.C.Denot = record { edges = []; state = Raw; exponent = c.new-self.result.current; start = c.args.start; step = c.new-self.result.step; lengths = record { edges = length e'; spare = length s'; marks = length m' } } in
     let opened : n ≡ opening (record { edges = length t.edges.now; spare = length t.spare.now; marks = length t.marks.now }) c.args.start c.args.step = λ i. record {
       edges = [];

@@ -1,4 +1,5 @@
-use Rattle.std.proofs.Common.{◌≡◌, ℕ, List, length, take, replicate, sym, refl, ap, ◌∙◌, subst, Bor}
+use Rattle.std.proofs.Common.{◌≡◌, ℕ, List, length, take, replicate, sym, refl, ap, ◌∙◌, subst}
+use denote.Ref.{MutBor}
 use lib.ListN.{length-replicate}
 use Rattle.std.proofs.lemmas.Result.{err_from_is_err_and, IfOk-from_err}
 use Rattle.segm.specs.Marks.{blank_mark}
@@ -19,9 +20,9 @@ returns-in_err-outcome g c =
     let s = c.args.self.now in
     let E = c.replace-edges.result.now in let S = c.replace-spare.result.now in let M = c.replace-marks.result.now in
     let E' = c.round_tables-result.new.edges in let S' = c.round_tables-result.new.spare in let M' = c.round_tables-result.new.marks in
-    let isE : E ≡ s.edges.now = ap (λ (r : Bor (List (Segment g.row.C.Denot))). r.now) c.replace-edges.ensures.value in
-    let isS : S ≡ s.spare.now = ap (λ (r : Bor (List (Segment g.row.C.Denot))). r.now) c.replace-spare.ensures.value in
-    let isM : M ≡ s.marks.now = ap (λ (r : Bor (List LineMark)). r.now) c.replace-marks.ensures.value in
+    let isE : E ≡ s.edges.now = ap (λ (r : MutBor (List (Segment g.row.C.Denot))). r.now) c.replace-edges.ensures.value in
+    let isS : S ≡ s.spare.now = ap (λ (r : MutBor (List (Segment g.row.C.Denot))). r.now) c.replace-spare.ensures.value in
+    let isM : M ≡ s.marks.now = ap (λ (r : MutBor (List LineMark)). r.now) c.replace-marks.ensures.value in
     let done = c.in_err-outcome.ensures in
     record {
       leaves = λ h.
@@ -48,9 +49,9 @@ returns g c =
     let s = c.args.self.now in
     let E = c.replace-edges.result.now in let S = c.replace-spare.result.now in let M = c.replace-marks.result.now in
     let E' = c.round_tables-result.new.edges in let S' = c.round_tables-result.new.spare in let M' = c.round_tables-result.new.marks in
-    let isE : E ≡ s.edges.now = ap (λ (r : Bor (List (Segment g.row.C.Denot))). r.now) c.replace-edges.ensures.value in
-    let isS : S ≡ s.spare.now = ap (λ (r : Bor (List (Segment g.row.C.Denot))). r.now) c.replace-spare.ensures.value in
-    let isM : M ≡ s.marks.now = ap (λ (r : Bor (List LineMark)). r.now) c.replace-marks.ensures.value in
+    let isE : E ≡ s.edges.now = ap (λ (r : MutBor (List (Segment g.row.C.Denot))). r.now) c.replace-edges.ensures.value in
+    let isS : S ≡ s.spare.now = ap (λ (r : MutBor (List (Segment g.row.C.Denot))). r.now) c.replace-spare.ensures.value in
+    let isM : M ≡ s.marks.now = ap (λ (r : MutBor (List LineMark)). r.now) c.replace-marks.ensures.value in
     let done = c.in_ok-outcome.ensures in
     let n = c.in_ok-outcome.outcome.used in let a = c.in_ok-outcome.outcome.answer in
     let longM : length M' ≡ length M = ap length done.marks ∙ length-replicate (length M) blank_mark in
