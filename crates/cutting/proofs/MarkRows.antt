@@ -1,7 +1,7 @@
 -- Marks in order stand in rows, one for each edge, and the edges are cut row by row.
 use Rattle.std.proofs.Common.{◌≡◌, ℕ, suc, ◌+◌, ◌-◌, ◌<◌, ◌≤◌, cond, List, [], ◌∷◌, ◌++◌, map, length, get_or, take, drop, Ordering, Less, Equal, Greater, sym, refl, ap, ◌∙◌, subst, ap₂, arith, take-append-drop}
 use borrow.Rule.Slice.PartMut.{put_mid}
-use Rattle.std.specs.List.{between, AllByRecursion as All}
+use Rattle.std.specs.List.{between, AllByRecursion}
 use Rattle.std.proofs.lemmas.List.Edits.{length-between, get_or-between}
 use Rattle.std.specs.Cmp.{ranks}
 use Rattle.std.specs.Ordering.{MatchOrdering, ordering_then, nat_cmp}
@@ -38,7 +38,7 @@ index_rises m n Equal e h =
     let k : m.index ≡ n.index = subst (λ o. MatchOrdering o (m.index < n.index) (m.index ≡ n.index) (n.index < m.index)) e (ranks m.index n.index) in omega arith
 index_rises m n Greater e h = let z : ◌≡◌ {A = ℕ} 0 1 = cc in omega arith
 
-rising_behind : (m : LineMark) (l : List LineMark) → All (λ n. mark_order m n ≡ Less) l → Ascending mark_kind l → Rising m.index l
+rising_behind : (m : LineMark) (l : List LineMark) → AllByRecursion (λ n. mark_order m n ≡ Less) l → Ascending mark_kind l → Rising m.index l
 rising_behind m [] h a = tt
 rising_behind m (n ∷ l) h a = (index_rises m n (nat_cmp m.index n.index) refl h.0, rising_behind n l a.0 a.1)
 

@@ -1,7 +1,7 @@
 -- The text of a drawing is read as that drawing, and a text that is read as one is its text.
 use Rattle.std.proofs.Common.{◌≡◌, ℕ, suc, ◌+◌, ◌^◌, ◌<◌, ◌≤◌, leb, ◌⊎◌, List, [], ◌∷◌, ◌++◌, map, length, ℤ, Ok, Err, decimal, Result, sym, refl, ap, ◌∙◌, inl, inr, ⊎_elim, append_assoc, arith}
 use Rattle.std.specs.Fmt.{signed_decimal}
-use Rattle.std.specs.List.{flat_map, AllByRecursion as All}
+use Rattle.std.specs.List.{flat_map, AllByRecursion}
 use Rattle.std.proofs.lemmas.Bool.{cases_Bool, cond-true, cond-false, le-leb, leb-true}
 use Rattle.plane.specs.Points.{InRange}
 use Rattle.drawing.specs.declared.drawing.Drawing.{Drawing}
@@ -39,7 +39,7 @@ edge_free c sound =
 line_cut : (line rest : List ℕ) → Free 10 line (length line) → lines (ended line ++ rest) ≡ line ∷ lines rest
 line_cut line rest free = ap lines (append_assoc line (10 ∷ []) rest) ∙ fields_cut 10 line rest free
 
-edges_read : (n : ℕ) (cs : List Ends) → All Sound cs → n + length cs ≤ 4098 → edges_from n (lines (edge_lines cs)) ≡ Ok (map drawn_with_ends cs)
+edges_read : (n : ℕ) (cs : List Ends) → AllByRecursion Sound cs → n + length cs ≤ 4098 → edges_from n (lines (edge_lines cs)) ≡ Ok (map drawn_with_ends cs)
 edges_read n [] sound few = refl
 edges_read n (c ∷ cs) (sound, more) few =
     ap (edges_from n) (line_cut (edge_text c) (edge_lines cs) (edge_free c sound))
@@ -47,7 +47,7 @@ edges_read n (c ∷ cs) (sound, more) few =
     ∙ (λ i. edge_then n (edge_read c sound i) (edges_read (suc n) cs more (omega arith) i))
     ∙ cond-true _ _ _ (le-leb n 4097 (omega arith))
 
-drawing_read : (e : ℕ) (cs : List Ends) → e < 2 ^ 32 → All Sound cs → length cs ≤ 4096 → drawing_of (drawing_text e cs) ≡ Ok (e, map drawn_with_ends cs)
+drawing_read : (e : ℕ) (cs : List Ends) → e < 2 ^ 32 → AllByRecursion Sound cs → length cs ≤ 4096 → drawing_of (drawing_text e cs) ≡ Ok (e, map drawn_with_ends cs)
 drawing_read e cs fits sound few =
     ap drawing_from (line_cut (head_text e) (edge_lines cs) (head_free e fits))
     ∙ drawing_is (head_text e) (edge_lines cs)
@@ -56,7 +56,7 @@ drawing_read e cs fits sound few =
 -- what the lines from number n on were
 record LinesWere (n : ℕ) (ls : List (List ℕ)) (es : List Drawn) : Type 0 where
   ends : List Ends
-  sound : All Sound ends
+  sound : AllByRecursion Sound ends
   few : (length ends ≡ 0) ⊎ (n + length ends ≤ 4098)
   whole : rejoined 10 ls ≡ edge_lines ends
   edges : es ≡ map drawn_with_ends ends

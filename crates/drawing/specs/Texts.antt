@@ -1,7 +1,7 @@
 -- The texts of drawings, by std's words for what is written of a number. A reading is exact: it gives what was written, and refuses all else.
 use Rattle.std.specs.Prelude.{◌≡◌, ℕ, ◌^◌, ◌<◌, ◌≤◌, ◌≢◌, List, [], ◌∷◌, ◌++◌, map, length, Ok, Err, decimal, Result}
 use Rattle.std.specs.Fmt.{signed_decimal}
-use Rattle.std.specs.List.{flat_map, AllByRecursion as All}
+use Rattle.std.specs.List.{flat_map, AllByRecursion}
 use Rattle.plane.specs.Points.{Point, Ranged}
 use Rattle.drawing.specs.declared.drawing.Drawing.{Drawing}
 use Rattle.drawing.specs.declared.drawn_edge.DrawnEdge.{DrawnEdge}
@@ -56,12 +56,12 @@ OnlyEdge line (Err f) = (c : Ends) → Sound c → line ≢ edge_text c
 -- the k-th edge is that of the k-th line after the first
 pub record DrawingWritten (text : List ℕ) (e : ℕ) (es : List Drawn) : Type 0 where
   pub ends : List Ends
-  pub sound : All Sound ends
+  pub sound : AllByRecursion Sound ends
   pub few : length ends ≤ 4096
   pub whole : text ≡ drawing_text e ends
   pub edges : es ≡ map drawn_with_ends ends
 
 abbrev pub OnlyDrawing : List ℕ → Result Drawing DrawingFault → Type 0
 OnlyDrawing text (Ok d) = DrawingWritten text d.exponent (drawn_in d)
-OnlyDrawing text (Err (Line n f)) = (e : ℕ) (cs : List Ends) → e < 2 ^ 32 → All Sound cs → length cs ≤ 4096 → text ≢ drawing_text e cs
+OnlyDrawing text (Err (Line n f)) = (e : ℕ) (cs : List Ends) → e < 2 ^ 32 → AllByRecursion Sound cs → length cs ≤ 4096 → text ≢ drawing_text e cs
 OnlyDrawing text (Err Memory) = Unit {0}

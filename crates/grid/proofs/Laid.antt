@@ -1,6 +1,6 @@
 -- Fragments laid edge by edge: the parts of each column, the edges, and how many there are.
 use Rattle.std.proofs.Common.{◌≡◌, ℕ, zero, suc, ◌+◌, ◌-◌, ◌<◌, ◌≤◌, Bool, true, false, cond, ◌&&◌, eqb, leb, ◌⊎◌, List, [], ◌∷◌, ◌++◌, map, length, take, set, sum_by, sym, refl, ap, ◌∙◌, subst, inl, inr, append_assoc, append-nil, add-zero, add_assoc, arith, length-append}
-use Rattle.std.specs.List.{range_with_len, AllByRecursion as All}
+use Rattle.std.specs.List.{range_with_len, AllByRecursion}
 use Rattle.std.proofs.ByRecursion.{All-map, All-append}
 use Rattle.std.proofs.lemmas.List.FromFn.{map-range_with_len_more, length-map-range_with_len}
 use Rattle.std.proofs.lemmas.List.{take_more_set, map_push}
@@ -151,22 +151,22 @@ edges_one l i e h = go (fragments l e) (omega arith)
         ∙ ap (λ (es : List Edge). e ∷ es) (edges_after l i e (first_column l e + 1) n (omega arith))
 
 -- ---- the columns of what is laid
-counted_below : (a n m : ℕ) → a + n ≤ m → All (λ c. c < m) (range_with_len a n)
+counted_below : (a n m : ℕ) → a + n ≤ m → AllByRecursion (λ c. c < m) (range_with_len a n)
 counted_below a zero m h = tt
 counted_below a (suc n) m h = (omega arith, counted_below (a + 1) n m (omega arith))
 
-laid_one_below : (l : Layout) (i m : ℕ) (e : Edge) → last_column l e < m → All (λ q. q.column < m) (laid_one l i e)
+laid_one_below : (l : Layout) (i m : ℕ) (e : Edge) → last_column l e < m → AllByRecursion (λ q. q.column < m) (laid_one l i e)
 unfolding laid_one
 laid_one_below l i m e h = All-map (λ (q : Content). q.column < m) (laid_in l i e) (range_with_len (first_column l e) (fragments l e)) (go (cases_lt (last_column l e) (first_column l e)))
   where
-    go : (last_column l e < first_column l e) ⊎ (first_column l e ≤ last_column l e) → All (λ c. c < m) (range_with_len (first_column l e) (fragments l e))
-    go (inl k) = subst (λ (n : ℕ). All (λ c. c < m) (range_with_len (first_column l e) n)) (empty k) tt
+    go : (last_column l e < first_column l e) ⊎ (first_column l e ≤ last_column l e) → AllByRecursion (λ c. c < m) (range_with_len (first_column l e) (fragments l e))
+    go (inl k) = subst (λ (n : ℕ). AllByRecursion (λ c. c < m) (range_with_len (first_column l e) n)) (empty k) tt
       where
         empty : last_column l e < first_column l e → 0 ≡ fragments l e
         empty k = omega arith
     go (inr k) = counted_below (first_column l e) (fragments l e) m (omega arith)
 
-pub laid_below : (l : Layout) (i m : ℕ) (es : List Edge) → All (λ e. last_column l e < m) es → All (λ q. q.column < m) (laid l i es)
+pub laid_below : (l : Layout) (i m : ℕ) (es : List Edge) → AllByRecursion (λ e. last_column l e < m) es → AllByRecursion (λ q. q.column < m) (laid l i es)
 unfolding laid
 laid_below l i m [] h = tt
 laid_below l i m (e ∷ es) (h, k) = All-append (λ (q : Content). q.column < m) (laid_one l i e) (laid l (suc i) es) (laid_one_below l i m e h) (laid_below l (suc i) m es k)

@@ -9,7 +9,7 @@ use native.Mathlib.Nat.{ℕ_set}
 use lib.Dec.{T_prop}
 use lib.IntN.{ℤ_set}
 use lib.Signed.{lt_z}
-use Rattle.std.specs.List.{range_with_len, flat_map, AllByRecursion as All}
+use Rattle.std.specs.List.{range_with_len, flat_map, AllByRecursion}
 use Rattle.std.proofs.ByRecursion.{All-get_or, All-push, All-weaker}
 use Rattle.std.proofs.lemmas.List.{length-map, length_push}
 use Rattle.std.proofs.lemmas.List.Sums.{sum_by_push}
@@ -64,7 +64,7 @@ sound_more {table} {table'} {used} {shown} {n} {b} {l} {heads} {state} e k s idl
   few = s.few;
   wide = s.wide;
   layout_is = s.layout_is;
-  lies = subst (λ (es : List Edge). All (Lies b) es) (sym more) (All-push (Lies b) es e s.lies w);
+  lies = subst (λ (es : List Edge). AllByRecursion (Lies b) es) (sym more) (All-push (Lies b) es e s.lies w);
   stands = idle_stands (take (used + k) table') heads state idle;
 }
   where
@@ -86,7 +86,7 @@ sound_walked {table} {table'} {used} {shown} {n} {b} {l} s e k stands = record {
   few = s.few;
   wide = s.wide;
   layout_is = s.layout_is;
-  lies = subst (λ (ms : List Content). All (Lies b) (edges_in l ms)) (sym e) s.lies;
+  lies = subst (λ (ms : List Content). AllByRecursion (Lies b) (edges_in l ms)) (sym e) s.lies;
   stands = stands;
 }
 
@@ -170,7 +170,7 @@ module _ (g : FragmentBuffer) where
   pub known_narrow : Narrow (contents (take g.used g.fragments.now))
   known_narrow = ∥∥₁_elim g.sound (Π_prop (λ k. →_prop le_prop)) (λ s k h.
       All-get_or (λ (q : Content). q.column < most_columns) (contents (take g.used g.fragments.now)) k blank_content h
-      (subst (λ (ms : List Content). All (λ q. q.column < most_columns) ms) (sym s.holds)
+      (subst (λ (ms : List Content). AllByRecursion (λ q. q.column < most_columns) ms) (sym s.holds)
       (laid_below (layout_of g.layout) 0 most_columns (grid_meaning g).shown
       (All-weaker (Lies (box_of g.extent)) (λ e. last_column (layout_of g.layout) e < most_columns) (λ e l.
       subst (λ (l : Layout). last_column l e < most_columns) (sym s.layout_is) (last_few (box_of g.extent) g.announced e s.few s.wide l))

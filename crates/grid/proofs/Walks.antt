@@ -2,7 +2,7 @@
 use Rattle.std.proofs.Common.{ℕ, suc, ◌-◌, ◌*◌, ◌^◌, ◌<◌, ◌≤◌, ◌⊎◌, List, length, ℤ, pos, ◌≤ℤ◌, ◌<ℤ◌, inl, inr, mul-le-mul, arith, length-append}
 use mathlib.Core.Logic.{∥∥₁_map}
 use borrow.Author.Differences.{ints}
-use Rattle.std.specs.List.{range_with_len, flat_map, AllByRecursion as All}
+use Rattle.std.specs.List.{range_with_len, flat_map, AllByRecursion}
 use Rattle.std.proofs.ByRecursion.{All-get_or}
 use Rattle.plane.specs.Edges.{Edge}
 use Rattle.plane.specs.Fractions.{Frac, Touch, TouchAt}
@@ -57,7 +57,7 @@ module _ (b : Box) (n : ℕ) (es : List Edge) where
   found_in i j h k (ends_in c few s t u w) = in_border_pairs c (i, j) few (border_has_first (layout b n) es c i j h k s t u w)
   found_in i j h k (holds_end c few s t u w) = in_border_pairs c (i, j) few (border_has_second (layout b n) es c i j h k s t u w)
 
-  grid_complete : n ≤ 4096 → width b <ℤ pos (2 ^ 32) → All (Lies b) es → (i j : ℕ) → i < j → j < length es → Touch (edge_at es i) (edge_at es j) → ∥ In (i, j) (grid_pairs b n es) ∥₁
+  grid_complete : n ≤ 4096 → width b <ℤ pos (2 ^ 32) → AllByRecursion (Lies b) es → (i j : ℕ) → i < j → j < length es → Touch (edge_at es i) (edge_at es j) → ∥ In (i, j) (grid_pairs b n es) ∥₁
   grid_complete few wide all i j h k t = ∥∥₁_map t (λ w. found_in i j h k (touch_found (layout b n) w.0 (edge_at es i) (edge_at es j) (placed w.0 w.1) (from i (lies i (omega arith))) (from j (lies j k)) w.1))
     where
       lies : (i : ℕ) → i < length es → Lies b (edge_at es i)
@@ -74,5 +74,5 @@ module _ (b : Box) (n : ℕ) (es : List Edge) where
           (trans (lies j k).begins (whole_le f (edge_at es j).a.x (le_x t.there.from)))
           (trans (le_whole f (edge_at es j).b.x (le_x t.there.to)) (lies j k).ends)
 
-  pub grid_walk : n ≤ 4096 → length es ≤ n → width b <ℤ pos (2 ^ 32) → All (Lies b) es → Walk es (grid_pairs b n es)
+  pub grid_walk : n ≤ 4096 → length es ≤ n → width b <ℤ pos (2 ^ 32) → AllByRecursion (Lies b) es → Walk es (grid_pairs b n es)
   grid_walk few short wide all = record { few = grid_short (omega arith); numbered = grid_numbered; complete = grid_complete few wide all }

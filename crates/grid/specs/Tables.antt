@@ -1,6 +1,6 @@
 -- What the table of fragments holds, how its columns are linked, and where a walk stands.
 use Rattle.std.specs.Prelude.{◌≡◌, ℕ, suc, ◌+◌, ◌-◌, ◌*◌, ◌^◌, ◌<◌, ◌≤◌, min, Bool, true, false, cond, ◌⊎◌, List, [], ◌∷◌, ◌++◌, map, length, get_or, take, drop, pos, ◌≤ℤ◌, ◌<ℤ◌, Some, None, filter, Option, ◌==◌, ◌≢◌, slice_index, slice_index_or}
-use Rattle.std.specs.List.{range_with_len, flat_map, AllByRecursion as All}
+use Rattle.std.specs.List.{range_with_len, flat_map, AllByRecursion}
 use Rattle.plane.specs.Edges.{Edge, Proper}
 use Rattle.plane.specs.Models.{edge_of}
 use Rattle.finder.specs.Finders.{Pair, Box, box_of, zero_box, blank_edge, first, rest}
@@ -217,5 +217,5 @@ pub record Sound (table : List Fragment) (used shown announced : ℕ) (box : Box
   pub few : announced ≤ 4096
   pub wide : width box <ℤ pos (2 ^ 32)
   pub layout_is : l ≡ layout box announced
-  pub lies : All (Lies box) (edges_in l (contents (take used table)))
+  pub lies : AllByRecursion (Lies box) (edges_in l (contents (take used table)))
   pub stands : Standing (take used table) heads state

@@ -4,7 +4,7 @@ use mathlib.Core.Bool.{Bool-set}
 use mathlib.Core.Logic.{∥∥₁_elim}
 use lib.ListN.{length-map}
 use Rattle.std.specs.Ordering.{is_eq}
-use Rattle.std.specs.List.{AllByRecursion as All}
+use Rattle.std.specs.List.{AllByRecursion}
 use Rattle.std.proofs.ByRecursion.{All-get_or, All-map}
 use Rattle.std.proofs.lemmas.Bool.{both_ways, leb-false}
 use Rattle.table.specs.Listings.{Ascending, Ordered}
@@ -33,7 +33,7 @@ use Rattle.history.proofs.Puts.{Accepted, accepted, put_segment, put_ends, put_c
 -- ---- places of a list in order
 module _ {C : Type 0} (K : CountKind C) where
   -- what holds of all edges holds of the one at a place
-  all_at : (P : Edge → Type 0) (l : List (Segment C)) (i : ℕ) → i < length l → All (λ s. P (ends_of s)) l → P (edge_at (map ends_of l) i)
+  all_at : (P : Edge → Type 0) (l : List (Segment C)) (i : ℕ) → i < length l → AllByRecursion (λ s. P (ends_of s)) l → P (edge_at (map ends_of l) i)
   all_at P l i lt h = All-get_or P (map ends_of l) i blank_edge (omega (arith, length-map l ends_of)) (All-map P ends_of l h)
 
   ascending_at : (l : List (Segment C)) → Ascending (segment_kind K) l → (i j : ℕ) → i < j → j < length l

@@ -1,7 +1,7 @@
 -- Between the ends of a piece lies no point of the path that it is cut from.
 use Rattle.std.proofs.Common.{◌≡◌, cond, ◌⊎◌, List, [], ◌∷◌, ◌++◌, map, pos, Ordering, Less, Equal, Greater, sym, refl, ap, ◌∙◌, subst, inl, inr}
 use Rattle.std.specs.Ordering.{is_gt}
-use Rattle.std.specs.List.{AllByRecursion as All}
+use Rattle.std.specs.List.{AllByRecursion}
 use Rattle.std.proofs.ByRecursion.{All-push}
 use Rattle.std.proofs.lemmas.List.{map_push}
 use Rattle.plane.specs.Points.{Point, ◌≺◌, cross}
@@ -67,7 +67,7 @@ first_gap p q l r = record { from = inl refl; to = inr (inl refl); step = r.0.0;
     none m (inr (inl e)) h = apart h.to e
     none m (inr (inr i)) h = irreflexive (≺-trans h.to (all_in (λ z. q ≺ z) l r.1.0 m i))
 
-further_gap : (p : Point) (l : List Point) (e : Edge) → All (λ q. p ≺ q) l → Gap l e → Gap (p ∷ l) e
+further_gap : (p : Point) (l : List Point) (e : Edge) → AllByRecursion (λ q. p ≺ q) l → Gap l e → Gap (p ∷ l) e
 further_gap p l e a g = record { from = inr g.from; to = inr g.to; step = g.step; none = none }
   where
     none : (m : Point) → In m (p ∷ l) → ¬ Between e m

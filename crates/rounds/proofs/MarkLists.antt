@@ -3,7 +3,7 @@ use Rattle.std.proofs.Common.{◌≡◌, ℕ, ◌<◌, ◌≤◌, Bool, true, fa
 use mathlib.Core.Logic.{∥∥₁_elim}
 use native.Mathlib.Bridge.{le_prop}
 use Rattle.std.specs.Ordering.{is_eq}
-use Rattle.std.specs.List.{AllByRecursion as All}
+use Rattle.std.specs.List.{AllByRecursion}
 use Rattle.std.proofs.lemmas.Bool.{eqb-true, eq-eqb}
 use Rattle.table.specs.Records.{RecordKind}
 use Rattle.table.specs.Listings.{Ascending}
@@ -83,7 +83,7 @@ module _ (s : ℕ) (es : List Edge) (ms : List LineMark) where
   marks_below h m i = ∥∥₁_elim ((h.each m).0 (in_held ms m i)) le_prop (λ t. t.1.here)
 
 -- ---- a list that holds all of another in order, and one more, is longer
-pub all_in : {X : Type 0} (P : X → Type 0) (xs : List X) (x : X) → All P xs → In x xs → P x
+pub all_in : {X : Type 0} (P : X → Type 0) (xs : List X) (x : X) → AllByRecursion P xs → In x xs → P x
 all_in P [] x h i = absurd i
 all_in P (y ∷ xs) x h (inl e) = subst P (sym e) h.0
 all_in P (y ∷ xs) x h (inr i) = all_in P xs x h.1 i

@@ -1,14 +1,14 @@
 -- What holds of all that is in a list, and what is in the list of its images.
 use Rattle.std.proofs.Common.{◌≡◌, ℕ, zero, suc, ◌<◌, List, [], ◌∷◌, map, length, get_or, sym, refl, ap, subst, inl, inr, arith}
-use Rattle.std.specs.List.{AllByRecursion as All}
+use Rattle.std.specs.List.{AllByRecursion}
 use Rattle.plane.specs.Rules.{In}
 
-pub all_in : {X : Type 0} (P : X → Type 0) (l : List X) → All P l → (x : X) → In x l → P x
+pub all_in : {X : Type 0} (P : X → Type 0) (l : List X) → AllByRecursion P l → (x : X) → In x l → P x
 all_in P [] a x h = absurd h
 all_in P (y ∷ l) a x (inl e) = subst P (sym e) a.0
 all_in P (y ∷ l) a x (inr h) = all_in P l a.1 x h
 
-pub all_from_in : {X : Type 0} (P : X → Type 0) (l : List X) → ((x : X) → In x l → P x) → All P l
+pub all_from_in : {X : Type 0} (P : X → Type 0) (l : List X) → ((x : X) → In x l → P x) → AllByRecursion P l
 all_from_in P [] h = tt
 all_from_in P (y ∷ l) h = (h y (inl refl), all_from_in P l (λ x i. h x (inr i)))
 

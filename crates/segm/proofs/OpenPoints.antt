@@ -1,7 +1,7 @@
 -- There is one list of open points, and so one number.
 use Rattle.std.proofs.Common.{◌≡◌, Bool, true, false, cond, ◌||◌, List, [], ◌∷◌, length, pos, is_some, IfSome, Some, None, Option, Ordering, Less, Equal, Greater, sym, refl, ap, ◌∙◌}
 use Rattle.std.specs.Ordering.{is_eq}
-use Rattle.std.specs.List.{AllByRecursion as All}
+use Rattle.std.specs.List.{AllByRecursion}
 use Rattle.std.proofs.ByRecursion.{All-weaker}
 use Rattle.table.specs.Records.{RecordKind}
 use Rattle.table.specs.Listings.{Ascending, record_at}
@@ -41,7 +41,7 @@ unfolding point_kind
 ascending_points [] h = tt
 ascending_points (p ∷ l) h = (All-weaker (λ q. p ≺ q) _ (λ q s. before_ranked p q (point_order p q) (points_ranked p q) s) l h.0, ascending_points l h.1)
 
-filled_points : (l : List Point) → All (λ p. point_kind.empty? p ≡ false) l
+filled_points : (l : List Point) → AllByRecursion (λ p. point_kind.empty? p ≡ false) l
 unfolding point_kind
 filled_points [] = tt
 filled_points (p ∷ l) = (refl, filled_points l)

@@ -1,7 +1,7 @@
 -- The corners of a table that holds the balance are the open points.
 use Rattle.std.proofs.Common.{◌≡◌, ℕ, Bool, true, false, not, ◌||◌, List, [], ◌∷◌, map, length, take, Less, Equal, sym, refl, ap, ◌∙◌, subst, arith}
 use Rattle.std.specs.Ordering.{is_eq}
-use Rattle.std.specs.List.{AllByRecursion as All}
+use Rattle.std.specs.List.{AllByRecursion}
 use Rattle.std.proofs.ByRecursion.{All-map, All-weaker}
 use Rattle.std.proofs.lemmas.List.{length-map}
 use Rattle.table.specs.Listings.{Ascending}
@@ -35,14 +35,14 @@ module _ {C : Type 0} (K : CountKind C) where
   )
 
   -- the point of the first corner is that of no other
-  none_behind : (p q : Point) (l : List (Corner C)) → point_order p q ≡ Equal → All (λ d. point_order q (place_of d) ≡ Less) l → total K (counts_at K p) l ≡ K.neutral
+  none_behind : (p q : Point) (l : List (Corner C)) → point_order p q ≡ Equal → AllByRecursion (λ d. point_order q (place_of d) ≡ Less) l → total K (counts_at K p) l ≡ K.neutral
   none_behind p q [] e h = refl
   none_behind p q (d ∷ l) e h =
       ap (λ o. K.sum (when K (is_eq o) d.count) (total K (counts_at K p) l)) (point_total.congr p q (place_of d) e ∙ h.0)
       ∙ identity_left K (total K (counts_at K p) l) ∙ none_behind p q l e h.1
 
   -- a point is listed where the corners count
-  listed_counts : (p : Point) (l : List (Corner C)) → Ascending (corner_kind K) l → All (λ c. K.empty? c.count ≡ false) l
+  listed_counts : (p : Point) (l : List (Corner C)) → Ascending (corner_kind K) l → AllByRecursion (λ c. K.empty? c.count ≡ false) l
       → listed? (map place_of l) p ≡ not (K.empty? (total K (counts_at K p) l))
   listed_counts p [] h k = sym (ap not K.neutral_empty)
   listed_counts p (c ∷ l) h k = go (is_eq (point_order p (place_of c))) refl (listed_counts p l h.1 k.1)

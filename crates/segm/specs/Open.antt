@@ -1,7 +1,7 @@
 -- The open points of segments: those whose balance is not empty.
 use Rattle.std.specs.Prelude.{◌≡◌, ℕ, Bool, false, not, ◌||◌, List, [], ◌∷◌, length}
 use Rattle.std.specs.Ordering.{is_eq}
-use Rattle.std.specs.List.{AllByRecursion as All}
+use Rattle.std.specs.List.{AllByRecursion}
 use Rattle.plane.specs.Points.{Point, ◌≺◌}
 use Rattle.segm.specs.Counts.{CountKind}
 use Rattle.segm.specs.Orders.{point_order}
@@ -11,7 +11,7 @@ use Rattle.segm.specs.declared.segment.Segment.{Segment}
 -- each point comes before all that follow it
 abbrev pub Rising : List Point → Type 0
 Rising [] = Unit {0}
-Rising (p ∷ l) = All (λ q. p ≺ q) l × Rising l
+Rising (p ∷ l) = AllByRecursion (λ q. p ≺ q) l × Rising l
 
 abbrev pub listed? : List Point → Point → Bool
 listed? [] p = false

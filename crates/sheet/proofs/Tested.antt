@@ -1,7 +1,7 @@
 -- Orders of lists, and a sheet in order, by tests that compute.
 use Rattle.std.proofs.Common.{◌≡◌, Bool, true, false, not, ◌&&◌, leb, List, [], ◌∷◌, length, Ordering, Less, Equal, Greater, sym, refl, ap, ◌∙◌, inl, inr}
 use Rattle.std.specs.Ordering.{is_lt}
-use Rattle.std.specs.List.{AllByRecursion as All}
+use Rattle.std.specs.List.{AllByRecursion}
 use Rattle.std.proofs.lemmas.Bool.{and_parts, leb-true}
 use Rattle.table.specs.Records.{RecordKind}
 use Rattle.table.specs.Listings.{Ordered, Reordered, none, same, swap, then}
@@ -35,7 +35,7 @@ module _ {R : Type 0} (A : RecordKind R) where
   ordered? [] = true
   ordered? (x ∷ l) = not (A.empty? x) && (first? x l && ordered? l)
 
-  comes_first : (x : R) (l : List R) → first? x l ≡ true → All (λ y. A.order x y ≡ Less) l
+  comes_first : (x : R) (l : List R) → first? x l ≡ true → AllByRecursion (λ y. A.order x y ≡ Less) l
   comes_first x [] e = tt
   comes_first x (y ∷ l) e = let p = and_parts (is_lt (A.order x y)) (first? x l) e in (is_less (A.order x y) p.0, comes_first x l p.1)
 

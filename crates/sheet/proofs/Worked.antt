@@ -3,7 +3,7 @@ use Rattle.std.proofs.Common.{◌≡◌, zero, suc, ◌+◌, ◌≤◌, Bool, tr
 use mathlib.Core.Bool.{false≢true}
 use lib.Signed.{le_z_yes, lt_z_yes}
 use Rattle.std.specs.Ordering.{is_eq}
-use Rattle.std.specs.List.{AllByRecursion as All}
+use Rattle.std.specs.List.{AllByRecursion}
 use Rattle.table.specs.Listings.{Reordered, same, swap, then}
 use Rattle.plane.specs.Edges.{Edge}
 use Rattle.plane.specs.Rounding.{taken}
@@ -127,7 +127,7 @@ ending_pairs : grid_pairs (edges_box (ends ending)) 3 (ends ending) ≡ (0, 2) �
 unfolding with_point
 ending_pairs = worked.at_border
 
-ending_lies : All (Lies (edges_box (ends ending))) (ends ending)
+ending_lies : AllByRecursion (Lies (edges_box (ends ending))) (ends ending)
 unfolding with_point
 ending_lies = (
   record { proper = before_yes _ _ refl; begins = le_z_yes tt; ends = le_z_yes tt },

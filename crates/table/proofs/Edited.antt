@@ -1,7 +1,7 @@
 -- A list with one record brought to its place, and what the list then lists.
 use Rattle.std.proofs.Common.{◌≡◌, Bool, true, false, cond, List, [], ◌∷◌, ◌++◌, Some, None, Option, Ordering, Less, Equal, Greater, sym, refl, ap, ◌∙◌, subst}
 use Rattle.std.specs.Ordering.{is_eq}
-use Rattle.std.specs.List.{AllByRecursion as All}
+use Rattle.std.specs.List.{AllByRecursion}
 use Rattle.std.proofs.ByRecursion.{All-append, All-weaker}
 use Rattle.table.specs.Records.{RecordKind}
 use Rattle.table.specs.Listings.{Ascending, record_at, joined_at, with_record, Listing}
@@ -15,8 +15,8 @@ placed (Some z) xs = z ∷ xs
 module _ {R : Type 0} (K : RecordKind R) where
   -- r belongs between low and high
   pub record Around (r : R) (low high : List R) : Type 0 where
-    pub before : All (λ a. K.order a r ≡ Less) low
-    pub after : All (λ b. K.order r b ≡ Less) high
+    pub before : AllByRecursion (λ a. K.order a r ≡ Less) low
+    pub after : AllByRecursion (λ b. K.order r b ≡ Less) high
     pub front : Ascending K low
     pub back : Ascending K high
 
@@ -54,11 +54,11 @@ module _ {R : Type 0} (K : RecordKind R) where
     off_key k None h e = refl
     off_key k (Some z) h e = passed_over K k z low high (ap is_eq (alike_right K z r k h) ∙ e)
 
-    filled_rest : (o : Option R) → All (λ x. K.empty? x ≡ false) (low ++ placed o high) → All (λ x. K.empty? x ≡ false) high
+    filled_rest : (o : Option R) → AllByRecursion (λ x. K.empty? x ≡ false) (low ++ placed o high) → AllByRecursion (λ x. K.empty? x ≡ false) high
     filled_rest None h = (all_parts _ low high h).1
     filled_rest (Some z) h = (all_parts _ low (z ∷ high) h).1.1
 
-    filled_placed : (o : Option R) → Filled K o → All (λ x. K.empty? x ≡ false) low → All (λ x. K.empty? x ≡ false) high → All (λ x. K.empty? x ≡ false) (low ++ placed o high)
+    filled_placed : (o : Option R) → Filled K o → AllByRecursion (λ x. K.empty? x ≡ false) low → AllByRecursion (λ x. K.empty? x ≡ false) high → AllByRecursion (λ x. K.empty? x ≡ false) (low ++ placed o high)
     filled_placed None h p q = All-append _ low high p q
     filled_placed (Some z) h p q = All-append _ low (z ∷ high) p (h, q)
 
@@ -128,7 +128,7 @@ module _ {R : Type 0} (K : RecordKind R) where
       around = record {
         before = (e, d.around.before);
         after = d.around.after;
-        front = ((all_parts _ d.low (placed d.here d.high) (subst (λ u. All (λ y. K.order x y ≡ Less) u) d.was asc.0)).0, d.around.front);
+        front = ((all_parts _ d.low (placed d.here d.high) (subst (λ u. AllByRecursion (λ y. K.order x y ≡ Less) u) d.was asc.0)).0, d.around.front);
         back = d.around.back;
       };
       keyed = d.keyed;

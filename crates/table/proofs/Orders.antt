@@ -1,7 +1,7 @@
 -- The order of keys, and what it says of the record at a key.
 use Rattle.std.proofs.Common.{◌≡◌, ℕ, Bool, true, false, cond, List, [], ◌∷◌, ◌++◌, IfSome, Some, None, Option, Ordering, Less, Equal, Greater, sym, refl, ap, ◌∙◌, arith}
 use Rattle.std.specs.Ordering.{is_eq, ordering_reverse}
-use Rattle.std.specs.List.{AllByRecursion as All}
+use Rattle.std.specs.List.{AllByRecursion}
 use Rattle.std.proofs.ByRecursion.{All-append}
 use Rattle.table.specs.Records.{RecordKind}
 use Rattle.table.specs.Listings.{Ascending, record_at, standing, joined_at}
@@ -19,7 +19,7 @@ is_equal Less e = cc
 is_equal Equal e = refl
 is_equal Greater e = cc
 
-pub all_parts : {X : Type 0} (P : X → Type 0) (xs ys : List X) → All P (xs ++ ys) → All P xs × All P ys
+pub all_parts : {X : Type 0} (P : X → Type 0) (xs ys : List X) → AllByRecursion P (xs ++ ys) → AllByRecursion P xs × AllByRecursion P ys
 all_parts P [] ys h = (tt, h)
 all_parts P (x ∷ xs) ys h = let r = all_parts P xs ys h.1 in ((h.0, r.0), r.1)
 
@@ -41,7 +41,7 @@ module _ {R : Type 0} (K : RecordKind R) where
 
   -- no record of xs has the key of k
   abbrev pub Apart : R → List R → Type 0
-  Apart k xs = All (λ x. is_eq (K.order k x) ≡ false) xs
+  Apart k xs = AllByRecursion (λ x. is_eq (K.order k x) ≡ false) xs
 
   pub absent : (k : R) (xs : List R) → Apart k xs → record_at K xs k ≡ None
   absent k [] h = refl
@@ -56,7 +56,7 @@ module _ {R : Type 0} (K : RecordKind R) where
   passed_over k z (a ∷ low) high e = ap (λ o. cond (is_eq (K.order k a)) (Some a) o) (passed_over k z low high e)
 
   -- what is found at a key has that key, and is not empty
-  pub found : (xs : List R) (k : R) → All (λ x. K.empty? x ≡ false) xs → IfSome (record_at K xs k) (λ x. (K.order k x ≡ Equal) × (K.empty? x ≡ false))
+  pub found : (xs : List R) (k : R) → AllByRecursion (λ x. K.empty? x ≡ false) xs → IfSome (record_at K xs k) (λ x. (K.order k x ≡ Equal) × (K.empty? x ≡ false))
   found [] k h = tt
   found (x ∷ xs) k h = go (is_eq (K.order k x)) refl (found xs k h.1)
     where
@@ -65,7 +65,7 @@ module _ {R : Type 0} (K : RecordKind R) where
       go true e rest = (is_equal (K.order k x) e, h.0)
       go false e rest = rest
 
-  pub ascending_append : (low high : List R) → Ascending K low → Ascending K high → All (λ a. All (λ b. K.order a b ≡ Less) high) low → Ascending K (low ++ high)
+  pub ascending_append : (low high : List R) → Ascending K low → Ascending K high → AllByRecursion (λ a. AllByRecursion (λ b. K.order a b ≡ Less) high) low → Ascending K (low ++ high)
   ascending_append [] high p q h = q
   ascending_append (a ∷ low) high p q h = (All-append _ low high p.0 h.0, ascending_append low high p.1 q h.1)
 

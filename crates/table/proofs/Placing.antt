@@ -1,6 +1,6 @@
 -- From the place that was found for a record to what its coming makes of the table.
 use Rattle.std.proofs.Common.{◌≡◌, ℕ, zero, suc, ◌+◌, ◌-◌, ◌<◌, ◌≤◌, true, false, cond, not, List, [], ◌∷◌, ◌++◌, length, get_or, take, drop, set, replicate, Some, None, Ordering, Less, Equal, Greater, sym, refl, ap, ◌∙◌, subst, ⊎_elim, add-one, arith}
-use Rattle.std.specs.List.{insert, remove, AllByRecursion as All}
+use Rattle.std.specs.List.{insert, remove, AllByRecursion}
 use Rattle.std.proofs.ByRecursion.{All-get_or, All-weaker}
 use Rattle.std.proofs.lemmas.List.{drop_all, drop_more, get_or-take, length-take-le, length-set, set-append_left, set_split, take-append-drop, drop-drop, drop-replicate}
 use Rattle.std.proofs.lemmas.Bool.{both_ways, cases_lt, not-true, not-false}
@@ -24,7 +24,7 @@ same_head x y ws zs xs p q = cc
 
 module _ {R : Type 0} (K : RecordKind R) where
   -- all up to a record before r are before r
-  front_before : (r : R) (xs : List R) (i : ℕ) → i ≤ length xs → Ascending K xs → ((k : ℕ) → k + 1 ≡ i → K.order (get_or xs k r) r ≡ Less) → All (λ a. K.order a r ≡ Less) (take i xs)
+  front_before : (r : R) (xs : List R) (i : ℕ) → i ≤ length xs → Ascending K xs → ((k : ℕ) → k + 1 ≡ i → K.order (get_or xs k r) r ≡ Less) → AllByRecursion (λ a. K.order a r ≡ Less) (take i xs)
   front_before r xs zero l asc h = tt
   front_before r [] (suc i) l asc h = tt
   front_before r (x ∷ xs) (suc zero) l asc h = (h 0 refl, tt)
@@ -34,7 +34,7 @@ module _ {R : Type 0} (K : RecordKind R) where
   )
 
   -- r is before all from a record on that it is before
-  back_after : (r : R) (ys : List R) → Ascending K ys → ((y : R) (zs : List R) → ys ≡ y ∷ zs → K.order r y ≡ Less) → All (λ b. K.order r b ≡ Less) ys
+  back_after : (r : R) (ys : List R) → Ascending K ys → ((y : R) (zs : List R) → ys ≡ y ∷ zs → K.order r y ≡ Less) → AllByRecursion (λ b. K.order r b ≡ Less) ys
   back_after r [] asc f = tt
   back_after r (y ∷ ys) asc f = let h = f y ys refl in (h, All-weaker (λ b. K.order y b ≡ Less) _ (λ b q. K.trans r y b h q) ys asc.0)
 
@@ -44,7 +44,7 @@ module _ {R : Type 0} (K : RecordKind R) where
   module _ (r : R) (t : List R) (used i : ℕ) (le : used ≤ length t) (within : i ≤ used)
       (before : (k : ℕ) → k + 1 ≡ i → K.order (get_or t k r) r ≡ Less)
       (here : i < used → K.order (get_or t i r) r ≡ Less → ⊥) where
-    front : Ascending K (take used t) → All (λ a. K.order a r ≡ Less) (take i (take used t))
+    front : Ascending K (take used t) → AllByRecursion (λ a. K.order a r ≡ Less) (take i (take used t))
     front asc =
         let l : length (take used t) ≡ used = length-take-le used t le in
         front_before r (take used t) i (omega arith) asc (λ k e. ap (λ x. K.order x r) (get_or-take used t k r (omega arith)) ∙ before k e)

@@ -2,19 +2,19 @@
 use Rattle.std.specs.Prelude.{◌≡◌, false, cond, List, [], ◌∷◌, Some, None, Option}
 use Rattle.std.specs.declared.cmp.Ordering.TheVariants.{Less}
 use Rattle.std.specs.Ordering.{is_eq}
-use Rattle.std.specs.List.{AllByRecursion as All}
+use Rattle.std.specs.List.{AllByRecursion}
 use Rattle.table.specs.Records.{RecordKind}
 
 module _ {R : Type 0} where
   -- each record comes before all that follow it
   abbrev pub Ascending : RecordKind R → List R → Type 0
   Ascending K [] = Unit {0}
-  Ascending K (x ∷ xs) = All (λ y. K.order x y ≡ Less) xs × Ascending K xs
+  Ascending K (x ∷ xs) = AllByRecursion (λ y. K.order x y ≡ Less) xs × Ascending K xs
 
   -- strictly ascending keys, and no record is empty
   pub record Ordered (K : RecordKind R) (xs : List R) : Type 0 where
     pub ascending : Ascending K xs
-    pub filled : All (λ x. K.empty? x ≡ false) xs
+    pub filled : AllByRecursion (λ x. K.empty? x ≡ false) xs
 
   -- the record of a list with the key of k
   abbrev pub record_at : RecordKind R → List R → R → Option R
