@@ -3,20 +3,20 @@
 
 mod drawing_input;
 mod marks;
-mod run;
+mod running;
 mod walk;
 
 use anyhow::anyhow;
 use marks::marks_job;
-use run::run_job;
+use running::run_job;
 use std::env;
 use walk::walk_job;
 
 fn main(rt: HostRuntime) -> anyhow::Result<()> {
-    begin(&rt)
+    run(&rt)
 }
 
-fn begin(rt: &HostRuntime) -> anyhow::Result<()> {
+fn run(rt: &HostRuntime) -> anyhow::Result<()> {
     let mut words = env::args(rt)?;
     let _ = words.next();
     let Some(job) = words.next() else {
