@@ -38,7 +38,7 @@ any_rounded? s gs (e ∷ es) = rounded_on? s e gs || any_rounded? s gs es
 
 -- m marks the spot t
 abbrev pub at? : Spot → LineMark → Bool
-at? t m = is_eq (ordering_then (nat_cmp (mark_key m).0 (t.edge, (t.point.x, t.point.y)).0) (ordering_then (int_cmp (mark_key m).1.0 (t.edge, (t.point.x, t.point.y)).1.0) (int_cmp (mark_key m).1.1 (t.edge, (t.point.x, t.point.y)).1.1)))
+at? t m = is_eq (ordering_then (nat_cmp (mark_key m).0 t.edge) (ordering_then (int_cmp (mark_key m).1.0 t.point.x) (int_cmp (mark_key m).1.1 t.point.y)))
 
 abbrev pub at_one? : List Spot → LineMark → Bool
 at_one? [] m = false
