@@ -1,5 +1,5 @@
 -- The laws of the commutative ring of the integers that `lib.IntN` lacks.
-use Rattle.std.proofs.Common.{◌≡◌, ℕ, ◌*◌, ℤ, pos, ◌+ℤ◌, ◌-ℤ◌, ◌*ℤ◌, neg_ℤ, sym, refl, ap, ◌∙◌, arith}
+use Rattle.std.proofs.Common.{◌≡◌, ℕ, ◌*◌, ℤ, pos, ◌+ℤ◌, ◌*ℤ◌, neg_ℤ, sym, ap, ◌∙◌, arith}
 use borrow.Author.Differences.{ints, up, down, product_is, sum_is_lem, neg_is}
 use lib.IntN.{*ℤ_comm}
 

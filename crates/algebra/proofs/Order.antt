@@ -1,12 +1,10 @@
 -- Signs and magnitudes of products, and orders that a positive factor keeps.
-use Rattle.std.proofs.Common.{◌≡◌, ℕ, zero, suc, ◌+◌, ◌-◌, ◌*◌, ◌/◌, ◌<◌, ◌≤◌, ◌≢◌, ◌⊎◌, List, [], ◌∷◌, ℤ, pos, negsuc, ◌+ℤ◌, ◌-ℤ◌, ◌*ℤ◌, neg_ℤ, nat_abs, ◌≤ℤ◌, ◌<ℤ◌, sym, refl, ap, ◌∙◌, subst, inl, inr, arith}
+use Rattle.std.proofs.Common.{◌≡◌, ℕ, zero, suc, ◌*◌, ◌<◌, ◌≤◌, [], ◌∷◌, ℤ, pos, negsuc, ◌-ℤ◌, ◌*ℤ◌, neg_ℤ, nat_abs, ◌≤ℤ◌, ◌<ℤ◌, refl, arith}
 use native.Mathlib.Nat as NatL
-use borrow.Author.Differences.{ints, up, down, product_is, sum_is_lem, neg_is}
-use lib.IntN.{*ℤ_comm}
+use borrow.Author.Differences.{ints}
 use lib.Signed.{clash_ℤ}
 use Rattle.std.proofs.lemmas.Int.{by_lt_z}
-use Rattle.algebra.proofs.Laws.{mul_neg, neg_mul, mul_add, add_mul}
-use Rattle.algebra.proofs.Ring.{Ex, v, k, ◌⊕◌, ◌⊖◌, ◌⊗◌, ⊝, ring}
+use Rattle.algebra.proofs.Ring.{v, ◌⊖◌, ◌⊗◌, ring}
 
 pub mul_pos : (a b : ℤ) → pos 0 <ℤ a → pos 0 <ℤ b → pos 0 <ℤ (a *ℤ b)
 mul_pos (pos m) (pos n) h g = let p : 0 < m = omega (arith, ints) in let q : 0 < n = omega (arith, ints) in omega (arith, ints, NatL.mul-pos p q)

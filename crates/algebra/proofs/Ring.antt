@@ -1,10 +1,10 @@
 -- A decision procedure for identities of polynomials over the integers, by computation.
-use Rattle.std.proofs.Common.{◌≡◌, ℕ, zero, suc, Bool, true, false, cond, T, eqb, leb, List, [], ◌∷◌, ℤ, pos, negsuc, ◌+ℤ◌, ◌-ℤ◌, ◌*ℤ◌, neg_ℤ, sym, refl, ap, ◌∙◌, subst, arith, eqb→eq}
+use Rattle.std.proofs.Common.{◌≡◌, ℕ, zero, suc, Bool, true, false, cond, T, leb, List, [], ◌∷◌, ℤ, pos, negsuc, ◌+ℤ◌, ◌-ℤ◌, ◌*ℤ◌, neg_ℤ, sym, refl, ap, ◌∙◌, subst, arith, eqb→eq}
 use Prim.Native.Nat.{compare, Ordering}
 use borrow.Author.Differences.{ints}
 use lib.Dec.{compare_is_eq}
-use lib.IntN.{+ℤ_idl, +ℤ_idr, +ℤ_assoc, +ℤ_invr, zero-*ℤ, *ℤ-zero, *ℤ_comm}
-use Rattle.algebra.proofs.Laws.{mul_assoc, mul_add, add_mul, mul_neg, neg_mul, one_mul, mul_one, mul_left_comm, add_left_comm, mul_swap}
+use lib.IntN.{+ℤ_idl, +ℤ_idr, +ℤ_assoc, zero-*ℤ, *ℤ-zero}
+use Rattle.algebra.proofs.Laws.{mul_assoc, mul_add, add_mul, neg_mul, one_mul, mul_one, mul_left_comm, add_left_comm, mul_swap}
 
 infixl 6 ◌⊕◌ ◌⊖◌
 infixl 7 ◌⊗◌

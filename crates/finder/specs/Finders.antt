@@ -1,5 +1,5 @@
 -- What a finder means, and what each of its calls does to that meaning.
-use Rattle.std.specs.Prelude.{◌≡◌, ℕ, suc, ◌^◌, ◌<◌, ◌≤◌, Bool, true, false, cond, not, ◌&&◌, List, [], ◌∷◌, ◌++◌, length, ℤ, pos, Some, None, Ok, Err, Option, Result, int_le, nat_le, nat_lt, slice_index_or, unsigned_abs}
+use Rattle.std.specs.Prelude.{◌≡◌, ℕ, ◌^◌, ◌<◌, ◌≤◌, Bool, true, false, cond, not, ◌&&◌, List, [], ◌∷◌, ◌++◌, length, ℤ, pos, Some, None, Ok, Err, Option, Result, int_le, nat_le, nat_lt, slice_index_or, unsigned_abs}
 use Rattle.plane.specs.Points.{Point, before?}
 use Rattle.plane.specs.Edges.{Edge}
 use Rattle.plane.specs.Fractions.{Touch}

@@ -1,5 +1,5 @@
 -- What is known of a grid from what its table holds.
-use Rattle.std.proofs.Common.{◌≡◌, ℕ, suc, ◌+◌, ◌^◌, ◌<◌, ◌≤◌, min, true, false, cond, List, [], ◌∷◌, ◌++◌, length, take, ℤ, pos, ◌<ℤ◌, filter, sym, refl, ap, ◌∙◌, subst, zero-add, arith, length-take}
+use Rattle.std.proofs.Common.{◌≡◌, ℕ, suc, ◌+◌, ◌^◌, ◌<◌, ◌≤◌, min, false, cond, List, [], ◌∷◌, ◌++◌, length, take, ℤ, pos, ◌<ℤ◌, filter, sym, refl, ap, ◌∙◌, subst, zero-add, arith, length-take}
 use mathlib.Core.Bool.{false≢true}
 use mathlib.Core.HLevel.{Π_prop, →_prop, ×_prop, Σ_set}
 use mathlib.Core.Logic.{∥∥₁_elim, ∥∥₁_prop}

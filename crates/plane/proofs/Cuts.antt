@@ -2,7 +2,7 @@
 use Rattle.std.proofs.Common.{◌≡◌, ◌⊎◌, ◌↔◌, List, [], ◌∷◌, ℤ, pos, ◌-ℤ◌, ◌*ℤ◌, neg_ℤ, ◌≤ℤ◌, ◌<ℤ◌, sym, ap, ◌∙◌, inl, inr, arith}
 use borrow.Author.Differences.{ints}
 use lib.Signed.{clash_ℤ}
-use Rattle.algebra.proofs.Ring.{v, k, ◌⊖◌, ◌⊗◌, ring}
+use Rattle.algebra.proofs.Ring.{v, ◌⊖◌, ◌⊗◌, ring}
 use Rattle.plane.specs.Points.{Point, ◌≺◌, by_x, by_y, cross}
 use Rattle.plane.specs.Edges.{Edge, Proper, Between}
 use Rattle.plane.specs.Fractions.{Frac, den, by, Line, On}

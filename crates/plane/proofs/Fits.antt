@@ -1,9 +1,8 @@
 -- Sizes of differences and products of coordinates: what fits 64 bits.
-use Rattle.std.proofs.Common.{◌≡◌, ℕ, ◌+◌, ◌*◌, ◌^◌, ◌<◌, ◌≤◌, ℤ, pos, negsuc, ◌+ℤ◌, ◌-ℤ◌, ◌*ℤ◌, neg_ℤ, nat_abs, ap, arith, w32, w64, SFits}
+use Rattle.std.proofs.Common.{ℕ, ◌+◌, ◌*◌, ◌^◌, ◌<◌, ◌≤◌, ℤ, ◌-ℤ◌, ◌*ℤ◌, nat_abs, arith, w64, SFits}
 use native.Mathlib.Nat as NatL
 use borrow.Author.Differences.{ints}
 use Rattle.algebra.proofs.Order.{abs_mul_le}
-use Rattle.plane.specs.Points.{InRange}
 
 fits : (x : ℤ) (n : ℕ) → nat_abs x ≤ n → n < 2 ^ 63 → SFits w64 x
 fits x n h g = omega (arith, ints)

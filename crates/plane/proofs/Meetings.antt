@@ -1,12 +1,10 @@
 -- What each way of meeting says of the four directions.
-use Rattle.std.proofs.Common.{◌≡◌, ℕ, zero, suc, ◌+◌, Bool, true, false, cond, ◌||◌, eqb, leb, ℤ, pos, negsuc, sym, refl, ap, ◌∙◌, arith}
-use borrow.Author.Differences.{ints}
-use Rattle.plane.specs.Edges.{Edge, direction, straight?, same?, zero_of, first, second, zeros, one_sided?}
+use Rattle.std.proofs.Common.{◌≡◌, ℕ, Bool, true, false, cond, ◌||◌, eqb, leb, refl, ◌∙◌, arith}
+use Rattle.plane.specs.Edges.{Edge, direction, straight?, first, second, zeros, one_sided?}
 use Rattle.plane.specs.Rounding.{zero?}
 use Rattle.plane.specs.Rules.{Inner}
 use Rattle.plane.specs.Answers.{meeting, meeting_by, end_met}
 use Rattle.plane.specs.declared.direction.Direction.{Direction}
-use Rattle.plane.specs.declared.direction.Direction.TheVariants.{Left, Straight, Right}
 use Rattle.plane.specs.declared.meeting.Meeting.{Meeting}
 use Rattle.plane.specs.declared.meeting.Meeting.TheVariants.{Aligned, Apart, OtherA, OtherB, TargetA, TargetB, Crossed}
 use Rattle.plane.proofs.Tests.{neither}

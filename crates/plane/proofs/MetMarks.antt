@@ -1,10 +1,10 @@
 -- What is marked, by the way in which two edges meet.
-use Rattle.std.proofs.Common.{◌≡◌, ℕ, ◌+◌, ◌<◌, ◌≤◌, min, Bool, true, false, cond, ◌&&◌, ◌||◌, eqb, ltb, leb, List, [], ◌∷◌, ◌++◌, ℤ, pos, sym, refl, ap, ◌∙◌, subst, arith}
+use Rattle.std.proofs.Common.{◌≡◌, ℕ, ◌+◌, ◌<◌, ◌≤◌, min, Bool, true, false, cond, ◌&&◌, eqb, ltb, leb, List, ◌++◌, ℤ, pos, sym, refl, ap, ◌∙◌, subst, arith}
 use Rattle.algebra.proofs.Ring.{◌⊖◌, ◌⊗◌, ◌≐◌, k, ring₄}
 use Rattle.plane.specs.Points.{Point, cross, distance}
-use Rattle.plane.specs.Edges.{Edge, direction, zero_of, same?, straight?, first, second, zeros, one_sided?, smaller?, between?}
+use Rattle.plane.specs.Edges.{Edge, direction, zero_of, same?, straight?, first, second, zeros, smaller?, between?}
 use Rattle.plane.specs.Rounding.{taken, zero?, on_lines?, reach, gap, nearer}
-use Rattle.plane.specs.Rules.{Marking, listed, nothing, on_both, on_target, on_other, overlaid, end_marked, snapped, inner_marked, marking, marked_on, rounded?, Inner}
+use Rattle.plane.specs.Rules.{Marking, listed, nothing, on_both, on_target, on_other, overlaid, end_marked, snapped, inner_marked, marking, marked_on, rounded?}
 use Rattle.plane.specs.Answers.{meeting, Tells, Answered}
 use Rattle.plane.specs.declared.cross_solver.CrossType.{CrossType}
 use Rattle.plane.specs.declared.cross_solver.CrossType.TheVariants as type
@@ -14,7 +14,7 @@ use Rattle.plane.specs.declared.direction.Direction.{Direction}
 use Rattle.plane.specs.declared.direction.Direction.TheVariants.{Straight}
 use Rattle.plane.proofs.Turns.{zero_straight}
 use Rattle.plane.proofs.Tests.{smaller_asym, not_smaller}
-use Rattle.plane.proofs.Meetings.{Met, Single, met}
+use Rattle.plane.proofs.Meetings.{Met, met}
 use Rattle.plane.proofs.Markings.{marking_aligned, marking_off, marking_end, marking_inner}
 
 -- ---- a rounded crossing, by its distances

@@ -1,7 +1,7 @@
 -- The point taken for a crossing, from the numbers that the code computes.
-use Rattle.std.proofs.Common.{◌≡◌, ℕ, zero, suc, ◌<◌, Bool, true, false, cond, eqb, ℤ, pos, negsuc, ◌+ℤ◌, ◌-ℤ◌, ◌*ℤ◌, nat_abs, sym, refl, ap, ◌∙◌, subst, arith, w64, SFits, of_z}
+use Rattle.std.proofs.Common.{◌≡◌, ◌<◌, true, false, cond, eqb, ℤ, pos, negsuc, ◌+ℤ◌, ◌-ℤ◌, ◌*ℤ◌, nat_abs, sym, ap, ◌∙◌, subst, arith, w64, SFits, of_z}
 use borrow.Author.Differences.{ints}
-use Rattle.plane.specs.Points.{Point, Ranged, InRange}
+use Rattle.plane.specs.Points.{Point, Ranged}
 use Rattle.plane.specs.Edges.{Edge, InSheet}
 use Rattle.plane.specs.Fractions.{numer, denom}
 use Rattle.plane.specs.Rounding.{nearest, cut, taken}

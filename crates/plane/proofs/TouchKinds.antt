@@ -1,19 +1,18 @@
 -- In which way two edges touch, by the way in which they meet.
-use Rattle.std.proofs.Common.{◌≡◌, Bool, true, false, not, ◌&&◌, ◌||◌, ◌≢◌, List, [], ◌∷◌, ◌++◌, Some, None, Option, sym, refl, ap, ◌∙◌, subst, arith}
+use Rattle.std.proofs.Common.{◌≡◌, Bool, true, false, not, ◌&&◌, ◌||◌, ◌≢◌, ◌++◌, Some, None, sym, refl, ap, ◌∙◌, subst, arith}
 use Rattle.plane.specs.Points.{Point}
 use Rattle.plane.specs.Edges.{Edge, Proper, zeros, smaller?, equal?, between?}
 use Rattle.plane.specs.Rules.{listed, ends_between, some?}
 use Rattle.plane.specs.Models.{edge_of, TouchesAs}
 use Rattle.plane.specs.Answers.{meeting}
 use Rattle.plane.specs.declared.x_segment.XSegment.{XSegment}
-use Rattle.plane.specs.declared.touch_type.TouchType.{TouchType}
 use Rattle.plane.specs.declared.touch_type.TouchType.TheVariants as kind
 use Rattle.plane.specs.declared.meeting.Meeting.{Meeting}
 use Rattle.plane.specs.declared.meeting.Meeting.TheVariants.{Aligned, Apart, OtherA, OtherB, TargetA, TargetB, Crossed}
 use Rattle.plane.proofs.EdgeOf.{proper_of}
 use Rattle.plane.proofs.Tests.{clash, not_smaller, smaller_asym}
-use Rattle.plane.proofs.Meetings.{Met, Single, met}
-use Rattle.plane.proofs.Touching.{as_overlay, as_equal, as_aligned_none, as_none, as_end, as_inner}
+use Rattle.plane.proofs.Meetings.{Met, met}
+use Rattle.plane.proofs.Touching.{as_none, as_end, as_inner}
 
 neither_not : (a b : Bool) → (not a && not b) ≡ true → (a ≡ false) × (b ≡ false)
 neither_not true b h = absurd (grind arith)

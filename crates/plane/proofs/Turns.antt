@@ -1,11 +1,10 @@
 -- Directions from the sign of a cross product.
-use Rattle.std.proofs.Common.{◌≡◌, ℕ, zero, suc, true, false, ℤ, pos, negsuc, ◌-ℤ◌, ◌*ℤ◌, refl, arith}
+use Rattle.std.proofs.Common.{◌≡◌, zero, suc, true, false, ℤ, pos, negsuc, ◌-ℤ◌, ◌*ℤ◌, refl, arith}
 use borrow.Author.Differences.{ints}
 use lib.Signed.{lt_z}
 use Rattle.plane.specs.Points.{Point, cross}
 use Rattle.plane.specs.Edges.{direction, straight?}
 use Rattle.plane.specs.Rounding.{zero?}
-use Rattle.plane.specs.declared.direction.Direction.{Direction}
 use Rattle.plane.specs.declared.direction.Direction.TheVariants.{Left, Straight, Right}
 
 pub is_left : (z : ℤ) → lt_z (pos 0) z ≡ true → Left ≡ direction z

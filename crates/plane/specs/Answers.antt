@@ -1,10 +1,9 @@
 -- What the parts of the crossing's solver answer.
-use Rattle.std.specs.Prelude.{◌≡◌, ℕ, ◌+◌, Bool, true, false, cond, ◌||◌, pos, Some, None, Option, ◌==◌, nat_le}
+use Rattle.std.specs.Prelude.{◌≡◌, ℕ, ◌+◌, Bool, false, cond, ◌||◌, pos, Some, None, Option, ◌==◌, nat_le}
 use Rattle.plane.specs.Points.{Point}
 use Rattle.plane.specs.Edges.{Edge, direction, straight?, same?, zero_of, first, second, zeros}
 use Rattle.plane.specs.Rules.{Marking, nothing, on_both, on_target, on_other, marking}
 use Rattle.plane.specs.PointOf.{point_of}
-use Rattle.plane.specs.declared.int_point.IntPoint.{IntPoint}
 use Rattle.plane.specs.declared.cross_solver.CrossResult.{CrossResult}
 use Rattle.plane.specs.declared.cross_solver.CrossType.{CrossType}
 use Rattle.plane.specs.declared.cross_solver.CrossType.TheVariants as type

@@ -1,5 +1,5 @@
 -- Edges, their order, and the directions of one edge's ends against another edge.
-use Rattle.std.specs.Prelude.{◌≡◌, ℕ, zero, suc, ◌+◌, Bool, true, false, cond, not, ◌&&◌, ◌||◌, ℤ, pos, negsuc}
+use Rattle.std.specs.Prelude.{◌≡◌, ℕ, zero, suc, ◌+◌, Bool, true, false, not, ◌&&◌, ◌||◌, ℤ, pos, negsuc}
 use Rattle.plane.specs.Points.{Point, Ranged, ◌≺◌, before?, cross}
 use Rattle.plane.specs.declared.direction.Direction.{Direction}
 use Rattle.plane.specs.declared.direction.Direction.TheVariants.{Left, Straight, Right}

@@ -1,5 +1,5 @@
 -- The laws of a crossing, from exact geometry: e and g are two edges, s is the snap exponent.
-use Rattle.std.specs.Prelude.{◌≡◌, ℕ, ◌<◌, ◌≤◌, Bool, true, false, ◌≢◌, ◌⊎◌, ◌↔◌, List, [], ◌∷◌, ℤ, pos, ◌-ℤ◌, ◌*ℤ◌, ◌<ℤ◌}
+use Rattle.std.specs.Prelude.{◌≡◌, ℕ, ◌<◌, ◌≤◌, true, false, ◌≢◌, ◌↔◌, List, [], ◌∷◌, ◌-ℤ◌, ◌*ℤ◌, ◌<ℤ◌}
 use Rattle.plane.specs.Points.{Point, Ranged, distance}
 use Rattle.plane.specs.Edges.{Edge}
 use Rattle.plane.specs.Fractions.{Frac, den, whole, Whole, On, Within, Touch, Only, crossing}

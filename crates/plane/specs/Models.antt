@@ -1,9 +1,8 @@
 -- What the values of the code mean.
-use Rattle.std.specs.Prelude.{◌≡◌, ℕ, Bool, cond, ◌⊎◌, List, [], ◌∷◌, ℤ, Some, None, Ok, Err, Option, Result}
+use Rattle.std.specs.Prelude.{◌≡◌, ℕ, cond, ◌⊎◌, List, [], ◌∷◌, Some, None, Ok, Err, Option, Result}
 use Rattle.plane.specs.Points.{Point, Ranged, before?}
 use Rattle.plane.specs.Edges.{Edge}
-use Rattle.plane.specs.Fractions.{Frac, On, Within, IsEnd, Touch, Only, Shared}
-use Rattle.plane.specs.Rules.{Marking, on_both, on_target, on_other}
+use Rattle.plane.specs.Fractions.{Frac, Within, IsEnd, Touch, Only, Shared}
 use Rattle.plane.specs.PointOf.{point_of}
 use Rattle.plane.specs.declared.int_point.IntPoint.{IntPoint}
 use Rattle.plane.specs.declared.plain_point.PlainPoint.{PlainPoint}

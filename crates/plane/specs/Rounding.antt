@@ -1,9 +1,9 @@
 -- From an exact crossing to a whole point, and from there to a near end.
-use Rattle.std.specs.Prelude.{◌≡◌, ℕ, ◌+◌, ◌*◌, ◌/◌, ◌^◌, ◌<◌, ◌≤◌, min, Bool, true, false, cond, ◌&&◌, ℤ, pos, ◌+ℤ◌, ◌-ℤ◌, ◌*ℤ◌, neg_ℤ, ◌==◌, int_lt, nat_lt, unsigned_abs}
+use Rattle.std.specs.Prelude.{◌≡◌, ℕ, ◌+◌, ◌*◌, ◌/◌, ◌^◌, ◌<◌, ◌≤◌, min, Bool, cond, ◌&&◌, ℤ, pos, ◌+ℤ◌, ◌-ℤ◌, ◌*ℤ◌, neg_ℤ, ◌==◌, int_lt, nat_lt, unsigned_abs}
 use Rattle.std.specs.Bool.{beq}
 use Rattle.plane.specs.Points.{Point, cross, distance}
 use Rattle.plane.specs.Edges.{Edge}
-use Rattle.plane.specs.Fractions.{Frac, numer, denom}
+use Rattle.plane.specs.Fractions.{numer, denom}
 
 -- m with the sign of n / d
 abbrev pub with_sign : ℤ → ℤ → ℕ → ℤ

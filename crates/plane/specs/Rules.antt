@@ -1,7 +1,7 @@
 -- What the crossing of two edges marks on either, by the four directions.
-use Rattle.std.specs.Prelude.{◌≡◌, ℕ, ◌+◌, ◌<◌, min, Bool, true, false, cond, ◌||◌, ◌≢◌, ◌⊎◌, List, [], ◌∷◌, ◌++◌, ◌==◌, nat_le}
+use Rattle.std.specs.Prelude.{◌≡◌, ℕ, min, Bool, true, false, cond, ◌||◌, ◌⊎◌, List, [], ◌∷◌, ◌++◌, ◌==◌, nat_le}
 use Rattle.plane.specs.Points.{Point}
-use Rattle.plane.specs.Edges.{Edge, direction, first, second, zeros, one_sided?, smaller?, between?}
+use Rattle.plane.specs.Edges.{Edge, first, second, zeros, one_sided?, smaller?, between?}
 use Rattle.plane.specs.Rounding.{taken, zero?, on_lines?, reach, gap, nearer}
 
 -- the marks on the target and on the other edge, and whether the crossing was rounded

@@ -10,7 +10,7 @@ use Rattle.table.proofs.Orders.{balanced}
 use Rattle.plane.specs.PointOf.{point_of}
 use Rattle.segm.specs.Orders.{point_order}
 use Rattle.segm.specs.OrderLaws.{same_point, equal_points, point_total}
-use Rattle.segm.specs.Marks.{mark_key, mark_order, blank_mark}
+use Rattle.segm.specs.Marks.{mark_order, blank_mark}
 use Rattle.segm.specs.declared.line_mark.LineMark.{LineMark}
 
 pub equal_parts : (m n : LineMark) (o : Ordering) → nat_cmp m.index n.index ≡ o → ordering_then o (point_order (point_of m.point) (point_of n.point)) ≡ Equal → m ≡ n

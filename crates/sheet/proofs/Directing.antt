@@ -1,11 +1,9 @@
 -- The segment of a put.
-use Rattle.std.proofs.Common.{◌≡◌, ℕ, ◌≤◌, Bool, true, false, cond, not, ◌&&◌, leb, ℤ, nat_abs, Some, None, Ok, Err, Ordering, Less, Equal, Greater, sym, refl, ap, ◌∙◌, subst, arith}
+use Rattle.std.proofs.Common.{◌≡◌, Bool, true, false, cond, not, ◌&&◌, nat_abs, Some, None, Ok, Ordering, Less, Equal, Greater, sym, refl, ap, ◌∙◌, subst}
 use Rattle.std.specs.Ordering.{is_eq, is_gt}
 use Rattle.std.proofs.lemmas.Bool.{both_ways, le-leb}
-use Rattle.plane.specs.Points.{Point, before?, ◌≺◌}
+use Rattle.plane.specs.Points.{Point, before?}
 use Rattle.plane.specs.PointOf.{point_of}
-use Rattle.plane.specs.Edges.{Edge}
-use Rattle.plane.specs.Models.{edge_between}
 use Rattle.plane.specs.declared.fault.Fault.TheVariants.{EndsEqual, CoordinateOutside, CountEmpty}
 use Rattle.plane.specs.declared.int_point.IntPoint.{IntPoint}
 use Rattle.plane.proofs.Tests.{before_yes, before_true}
@@ -15,8 +13,7 @@ use Rattle.segm.specs.Orders.{point_order}
 use Rattle.segm.specs.OrderLaws.{Stands, points_ranked, equal_points}
 use Rattle.segm.specs.Segments.{ends_of, turned_of, directed}
 use Rattle.segm.specs.declared.segment.Segment.{Segment}
-use Rattle.history.specs.Sheets.{put_count}
-use Rattle.sheet.specs.Models.{early_refusal, Directed}
+use Rattle.sheet.specs.Models.{Directed}
 use Rattle.plane.proofs.Points.{never, weaken, apart}
 
 -- after, by the comparison and by the test

@@ -1,5 +1,5 @@
 -- A table with a list in its first places and blank places behind, told in the sheet's words and in the table's.
-use Rattle.std.proofs.Common.{◌≡◌, ℕ, ◌-◌, ◌≤◌, min, List, ◌++◌, length, take, drop, replicate, sym, refl, ap, ◌∙◌, subst, arith, take-append-drop, length-take-le, drop_at}
+use Rattle.std.proofs.Common.{◌≡◌, ℕ, ◌-◌, ◌≤◌, List, ◌++◌, length, take, drop, replicate, sym, ap, ◌∙◌, take-append-drop, length-take-le, drop_at}
 
 module _ {X : Type 0} (blank : X) where
   pub blank_behind : (t : List X) (n : ℕ) → n ≤ length t → t ≡ take n t ++ replicate (length t - length (take n t)) blank → drop n t ≡ replicate (length t - n) blank

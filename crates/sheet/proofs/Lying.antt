@@ -1,8 +1,6 @@
 -- A sheet that is held lies in its tables, and one that lies in its tables is held.
-use Rattle.std.proofs.Common.{◌≡◌, ℕ, ◌-◌, ◌≤◌, min, List, ◌++◌, length, take, replicate, sym, refl, ap, ◌∙◌, subst, arith}
-use lib.ListN.{length-replicate}
+use Rattle.std.proofs.Common.{◌≡◌, ℕ, List, length, take, replicate, sym, refl, ap, ◌∙◌, subst}
 use Rattle.segm.specs.Counts.{CountKind}
-use Rattle.segm.specs.Segments.{blank_segment}
 use Rattle.segm.specs.Marks.{blank_mark}
 use Rattle.segm.specs.declared.line_mark.LineMark.{LineMark}
 use Rattle.segm.specs.declared.segment.Segment.{Segment}

@@ -1,5 +1,5 @@
 -- Moving a list from one table into another.
-use Rattle.std.proofs.Common.{◌≡◌, ℕ, suc, ◌+◌, ◌-◌, ◌<◌, ◌≤◌, min, max, List, [], ◌∷◌, ◌++◌, length, take, drop, replicate, sym, refl, ap, ◌∙◌, subst, arith, length-append, length-drop, length-take, length-take-le, drop-drop, take_at, drop_at}
+use Rattle.std.proofs.Common.{◌≡◌, ℕ, ◌+◌, ◌-◌, ◌<◌, ◌≤◌, min, max, List, ◌++◌, length, take, drop, replicate, ap, ◌∙◌, arith, length-drop, length-take-le, drop-drop, take_at, drop_at}
 use Rattle.std.proofs.lemmas.List.{take-replicate}
 
 module _ {X : Type 0} (b : X) where

@@ -1,5 +1,5 @@
 -- A put, from what the table's insertion says.
-use Rattle.std.proofs.Common.{◌≡◌, ℕ, ◌-◌, ◌≤◌, min, Bool, true, false, cond, not, ◌&&◌, ◌||◌, leb, List, [], ◌∷◌, ◌++◌, length, take, drop, replicate, Some, None, Ok, Err, Option, sym, refl, ap, ◌∙◌, subst, arith, length-take-le}
+use Rattle.std.proofs.Common.{◌≡◌, ℕ, ◌-◌, ◌≤◌, min, Bool, true, false, cond, not, ◌&&◌, ◌||◌, leb, List, [], ◌∷◌, ◌++◌, length, take, replicate, Some, None, Ok, sym, refl, ap, ◌∙◌, arith, length-take-le}
 use Rattle.std.specs.Ordering.{is_eq}
 use Rattle.std.proofs.lemmas.Bool.{both_ways, leb-true, le-leb, and_parts}
 use Rattle.table.specs.Contents as table
@@ -16,16 +16,16 @@ use Rattle.segm.specs.Counts.{CountKind}
 use Rattle.segm.specs.Orders.{point_order, edge_order}
 use Rattle.segm.specs.Segments.{ends_of, blank_segment}
 use Rattle.segm.specs.SegmentKind.{segment_kind}
-use Rattle.segm.specs.Balance.{when, counts, count_at, Counting}
+use Rattle.segm.specs.Balance.{when, counts, count_at}
 use Rattle.segm.specs.declared.segment.Segment.{Segment}
 use Rattle.segm.proofs.Adding.{came_adds}
 use Rattle.segm.proofs.Groups.{inverse_inverse, inverse_neutral}
-use Rattle.history.specs.Sheets.{Page, Sound, changed, edge_places, listed?, put_refusal, put_count, put_counts, PutOn, Put}
+use Rattle.history.specs.Sheets.{Page, Sound, changed, edge_places, listed?, put_refusal, put_count, put_counts, Put}
 use Rattle.history.specs.declared.sheet_state.SheetState.{SheetState}
 use Rattle.history.specs.declared.sheet_state.SheetState.TheVariants.{Raw}
 use Rattle.history.proofs.Given.{facts}
 use Rattle.history.proofs.Sound.{put_sound}
-use Rattle.sheet.specs.Models.{early_refusal, Directed}
+use Rattle.sheet.specs.Models.{early_refusal}
 use Rattle.sheet.proofs.Layouts.{blank_behind, laid_out}
 
 -- the last check, behind those that do not look at the sheet

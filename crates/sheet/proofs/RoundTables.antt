@@ -1,5 +1,5 @@
 -- A round over the tables, from the marks that were gathered and the pieces that were joined.
-use Rattle.std.proofs.Common.{◌≡◌, ℕ, ◌+◌, ◌-◌, ◌<◌, ◌≤◌, min, max, List, [], ◌∷◌, ◌++◌, map, length, take, drop, replicate, sym, refl, ap, ◌∙◌, subst, append_assoc, arith, length-append, length-drop, length-take-le, drop-drop, take_at}
+use Rattle.std.proofs.Common.{◌≡◌, ℕ, ◌+◌, ◌-◌, ◌<◌, ◌≤◌, min, max, List, [], ◌++◌, length, take, drop, replicate, sym, refl, ap, ◌∙◌, subst, arith, length-append, length-take-le, drop-drop, take_at}
 use lib.ListN.{length-map, length-replicate}
 use Rattle.std.proofs.lemmas.List.{replicate-append-replicate, drop-replicate}
 use Rattle.plane.specs.Rules.{In}
@@ -9,16 +9,14 @@ use Rattle.finder.specs.Finders.{Walks}
 use Rattle.segm.specs.Counts.{CountKind}
 use Rattle.segm.specs.Segments.{ends_of, blank_segment}
 use Rattle.segm.specs.Balance.{count_at, Counting}
-use Rattle.segm.specs.Marks.{blank_mark}
 use Rattle.segm.specs.declared.line_mark.LineMark.{LineMark}
 use Rattle.segm.specs.declared.segment.Segment.{Segment}
-use Rattle.rounds.specs.Marks.{MarksOf}
 use Rattle.rounds.specs.Pieces.{cut_from, CutList}
 use Rattle.rounds.proofs.MarkLists.{marks_below}
 use Rattle.rounds.proofs.Numbers.{pieces_number}
 use Rattle.rounds.proofs.Proper.{uncut}
 use Rattle.history.specs.Rounds.{Use, RoundDone, RoundRefused, finder_full, marks_full, pieces_full, state_after, exponent_after}
-use Rattle.history.specs.Sheets.{Page, Sound, ends, changed, edge_places, mark_places}
+use Rattle.history.specs.Sheets.{Page, ends, changed}
 use Rattle.history.specs.declared.answers.RoundAnswer.{RoundAnswer}
 use Rattle.history.proofs.Given.{facts}
 use Rattle.history.proofs.Sound.{round_sound}

@@ -1,10 +1,9 @@
 -- One round more of a run.
-use Rattle.std.proofs.Common.{◌≡◌, ℕ, suc, ◌+◌, ◌<◌, ◌≤◌, Bool, true, false, ◌||◌, ltb, ◌≢◌, ◌⊎◌, sym, refl, ap, ◌∙◌, subst, inl, inr, add-one, arith}
+use Rattle.std.proofs.Common.{◌≡◌, ℕ, ◌+◌, Bool, true, false, ◌||◌, ltb, ◌≢◌, sym, refl, ap, ◌∙◌, subst, add-one}
 use Rattle.std.proofs.lemmas.Bool.{both_ways}
-use Rattle.plane.specs.declared.fault.Fault.{Fault}
 use Rattle.finder.specs.Finders.{Needs, Meaning}
 use Rattle.segm.specs.Counts.{CountKind}
-use Rattle.history.specs.Rounds.{Use, Budget, Rounds, Round, RoundDone, RoundRefused, RunDone, RunBroke, RunRefused, broke}
+use Rattle.history.specs.Rounds.{Use, Rounds, RoundDone}
 use Rattle.history.specs.Sheets.{Page}
 use Rattle.history.specs.declared.answers.RoundAnswer.{RoundAnswer}
 use Rattle.history.specs.declared.sheet_state.SheetState.{SheetState}

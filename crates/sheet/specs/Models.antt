@@ -1,5 +1,5 @@
 -- The sheet that the fields of the code stand for, and what a call does to it.
-use Rattle.std.specs.Prelude.{◌≡◌, ℕ, Bool, true, false, cond, not, ◌&&◌, length, take, Some, None, Ok, Err, Option, Result}
+use Rattle.std.specs.Prelude.{◌≡◌, Bool, true, false, cond, not, ◌&&◌, length, take, Some, None, Ok, Err, Option, Result}
 use Rattle.std.specs.Ordering.{is_eq}
 use Rattle.plane.specs.Points.{Point}
 use Rattle.plane.specs.Models.{edge_between}

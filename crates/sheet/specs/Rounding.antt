@@ -8,7 +8,7 @@ use Rattle.segm.specs.Marks.{blank_mark}
 use Rattle.segm.specs.declared.line_mark.LineMark.{LineMark}
 use Rattle.segm.specs.declared.segment.Segment.{Segment}
 use Rattle.history.specs.Rounds.{state_after, exponent_after}
-use Rattle.history.specs.Sheets.{Page, ends, changed, edge_places, mark_places, Sound}
+use Rattle.history.specs.Sheets.{Page, ends, changed, Sound}
 use Rattle.history.specs.declared.answers.RoundAnswer.{RoundAnswer}
 
 module _ {C : Type 0} where

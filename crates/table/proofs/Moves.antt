@@ -1,9 +1,9 @@
 -- What the move of a part of a table by one place, and a write beside it, leave of the table.
-use Rattle.std.proofs.Common.{◌≡◌, ℕ, suc, ◌+◌, ◌-◌, ◌<◌, ◌≤◌, min, List, [], ◌∷◌, ◌++◌, length, get_or, take, drop, set, sym, ap, ◌∙◌, subst, ap₂, ⊎_elim, add-one, arith, drop-cons}
+use Rattle.std.proofs.Common.{◌≡◌, ℕ, suc, ◌+◌, ◌-◌, ◌<◌, ◌≤◌, min, List, [], ◌∷◌, ◌++◌, length, get_or, take, drop, set, sym, ap, ◌∙◌, ap₂, ⊎_elim, add-one, arith, drop-cons}
 use lib.Seq.{paste}
 use Rattle.std.specs.List.{insert, remove}
 use Rattle.std.proofs.lemmas.List.Edits.{length-insert, length-remove}
-use Rattle.std.proofs.lemmas.List.{take_more, drop_at, take_at, set_at, length-take-le, length-drop, length-append, append_assoc, drop-drop, take-take, take_all}
+use Rattle.std.proofs.lemmas.List.{take_more, drop_at, take_at, set_at, length-take-le, length-drop, length-append, append_assoc, take-take, take_all}
 use Rattle.std.proofs.lemmas.Slice.{between_is}
 use Rattle.std.proofs.lemmas.Bool.{cases_lt}
 

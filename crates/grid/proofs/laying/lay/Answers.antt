@@ -1,4 +1,4 @@
-use Rattle.std.proofs.Common.{◌≡◌, ℕ, ◌+◌, ◌-◌, ◌<◌, ◌++◌, map, length, take, sym, ap, ◌∙◌, append-nil, add-zero, arith}
+use Rattle.std.proofs.Common.{◌≡◌, ℕ, ◌+◌, ◌<◌, ◌++◌, map, length, take, sym, ap, ◌∙◌, append-nil, add-zero, arith}
 use Rattle.std.specs.List.{range_with_len}
 use Rattle.plane.specs.Models.{edge_of}
 use Rattle.grid.specs.Rectangles.{first_column, fragments}

@@ -1,4 +1,4 @@
-use Rattle.std.proofs.Common.{◌≡◌, Bool, cond, eqb, ℤ, ◌*ℤ◌, nat_abs, sym, ap, ◌∙◌, w64, SFits}
+use Rattle.std.proofs.Common.{◌≡◌, Bool, cond, ℤ, ◌*ℤ◌, sym, ap, ◌∙◌, w64, SFits}
 use Rattle.std.proofs.lemmas.Int.{to_z-of_z}
 use Rattle.plane.specs.Rounding.{nearest, cut}
 use Rattle.plane.proofs.Fits.{off64}

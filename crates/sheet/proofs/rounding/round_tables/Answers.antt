@@ -1,16 +1,12 @@
-use Rattle.std.proofs.Common.{◌≡◌, ℕ, ◌-◌, ◌≤◌, min, List, [], ◌++◌, length, take, drop, replicate, sym, refl, ap, ◌∙◌, subst, arith, length-take-le}
+use Rattle.std.proofs.Common.{◌≡◌, ℕ, ◌-◌, min, [], ◌++◌, length, take, drop, replicate, sym, refl, ap, ◌∙◌, subst, arith, length-take-le}
 use lib.Seq.{length_front, take-append-le}
 use Rattle.std.proofs.lemmas.Result.{err_from_is_err_and}
 use Rattle.table.specs.Listings.{Ordered}
 use Rattle.segm.specs.MarkKind.{mark_kind}
 use Rattle.segm.specs.Marks.{blank_mark}
-use Rattle.segm.specs.declared.line_mark.LineMark.{LineMark}
-use Rattle.segm.specs.declared.segment.Segment.{Segment}
 use Rattle.rounds.specs.Pieces.{cut_from}
-use Rattle.history.specs.Sheets.{Page}
 use Rattle.marking.specs.Gathering.{Gathered}
 use Rattle.marking.specs.Gathering.{use_of}
-use Rattle.sheet.specs.Rounding.{Lies}
 use Rattle.sheet.proofs.Moves.{part_blank}
 use Rattle.sheet.proofs.RoundTables.{not_gathered, too_many, came, left_whole, pieced_none, never_crowded, left_cut}
 use Rattle.sheet.proofs.rounding.round_tables.Goals as goal

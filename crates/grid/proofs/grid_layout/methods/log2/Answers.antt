@@ -1,4 +1,4 @@
-use Rattle.std.proofs.Common.{◌-◌, arith}
+use Rattle.std.proofs.Common.{arith}
 use Rattle.std.proofs.lemmas.Nat.{leading_top}
 use Rattle.grid.proofs.Logs.{ilog2_below, ilog2_is}
 use Rattle.grid.proofs.grid_layout.methods.log2.Goals as goal

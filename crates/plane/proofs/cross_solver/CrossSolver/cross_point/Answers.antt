@@ -1,4 +1,4 @@
-use Rattle.std.proofs.Common.{◌≡◌, ◌∙◌, w64, SFits}
+use Rattle.std.proofs.Common.{◌∙◌, w64, SFits}
 use Rattle.std.proofs.lemmas.Int.{to_z-of_z}
 use Rattle.plane.specs.Models.{edge_of}
 use Rattle.plane.proofs.EdgeOf.{sheet_of}

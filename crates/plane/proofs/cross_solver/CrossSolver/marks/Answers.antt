@@ -1,7 +1,7 @@
 use Rattle.std.proofs.Common.{sym, ◌∙◌}
 use Rattle.plane.specs.Models.{edge_of}
 use Rattle.plane.proofs.MetMarks.{given_turned, given_straight}
-use Rattle.plane.proofs.PairLaws.{PairLaws, pair_laws}
+use Rattle.plane.proofs.PairLaws.{pair_laws}
 use Rattle.plane.proofs.Worked.{worked}
 use Rattle.plane.proofs.cross_solver.CrossSolver.marks.Goals as goal
 

@@ -1,4 +1,4 @@
-use Rattle.std.proofs.Common.{◌≡◌, ℕ, sym, ◌∙◌, subst}
+use Rattle.std.proofs.Common.{ℕ, sym, ◌∙◌, subst}
 use Rattle.plane.specs.PointOf.{point_of}
 use Rattle.plane.specs.Models.{edge_of}
 use Rattle.plane.specs.Rules.{Marking, snapped}

@@ -1,6 +1,6 @@
 use Rattle.plane.specs.PointOf.{point_of}
 use Rattle.plane.specs.Models.{edge_of}
-use Rattle.plane.proofs.MetMarks.{Gaps, snapped_free, snapped_target_a, snapped_target_b, snapped_other_a, snapped_other_b}
+use Rattle.plane.proofs.MetMarks.{snapped_free, snapped_target_a, snapped_target_b, snapped_other_a, snapped_other_b}
 use Rattle.plane.proofs.cross_solver.CrossSolver.snap.Goals as goal
 
 pub returns-then-min-near : goal.returns-then-min-near

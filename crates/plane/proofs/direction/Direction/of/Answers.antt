@@ -1,4 +1,4 @@
-use Rattle.std.proofs.Common.{◌≡◌, ap, ◌∙◌, w64, SFits}
+use Rattle.std.proofs.Common.{ap, ◌∙◌, w64, SFits}
 use Rattle.std.proofs.lemmas.Int.{to_z-of_z}
 use Rattle.plane.specs.PointOf.{point_of}
 use Rattle.plane.specs.Edges.{direction}

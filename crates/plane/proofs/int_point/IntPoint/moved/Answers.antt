@@ -1,6 +1,5 @@
-use Rattle.std.proofs.Common.{◌≡◌, ℤ, arith}
+use Rattle.std.proofs.Common.{arith}
 use borrow.Author.Differences.{ints}
-use Rattle.plane.specs.Points.{Point}
 use Rattle.plane.proofs.Points.{point_ext}
 use Rattle.plane.proofs.int_point.IntPoint.moved.Goals as goal
 

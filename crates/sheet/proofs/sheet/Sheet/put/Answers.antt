@@ -1,10 +1,9 @@
-use Rattle.std.proofs.Common.{◌≡◌, ℕ, ◌-◌, min, List, ◌++◌, length, take, replicate, sym, refl, ap, ◌∙◌, subst, arith}
+use Rattle.std.proofs.Common.{◌≡◌, ℕ, ◌-◌, min, List, ◌++◌, length, take, replicate, sym, refl, ap, ◌∙◌, subst}
 use Rattle.std.proofs.lemmas.Result.{err_from_is_err_and}
 use Rattle.plane.specs.Models.{plain_point}
 use Rattle.segm.specs.Segments.{blank_segment}
 use Rattle.segm.specs.declared.segment.Segment.{Segment}
 use Rattle.history.specs.Sheets.{Page, Sound, Tables}
-use Rattle.history.specs.declared.sheet_state.SheetState.TheVariants.{Raw}
 use Rattle.sheet.specs.Models.{page_of}
 use Rattle.sheet.proofs.Putting.{Begun, put_ended, put_full, put_early}
 use Rattle.sheet.proofs.sheet.Sheet.put.Goals as goal

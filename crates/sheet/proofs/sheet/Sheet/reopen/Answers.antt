@@ -1,4 +1,4 @@
-use Rattle.std.proofs.Common.{◌≡◌, ℕ, ◌-◌, List, [], length, replicate, sym, refl, ap, ◌∙◌, subst, arith}
+use Rattle.std.proofs.Common.{◌≡◌, ℕ, ◌-◌, List, [], length, replicate, sym, ap, ◌∙◌, subst, arith}
 use denote.Ref.{MutBor}
 use lib.ListN.{length-replicate}
 use Rattle.segm.specs.Marks.{blank_mark}

@@ -1,11 +1,11 @@
-use Rattle.std.proofs.Common.{◌≡◌, ℕ, List, length, take, replicate, sym, refl, ap, ◌∙◌, subst}
+use Rattle.std.proofs.Common.{◌≡◌, ℕ, List, length, take, replicate, sym, ap, ◌∙◌, subst}
 use denote.Ref.{MutBor}
 use lib.ListN.{length-replicate}
 use Rattle.std.proofs.lemmas.Result.{err_from_is_err_and, IfOk-from_err}
 use Rattle.segm.specs.Marks.{blank_mark}
 use Rattle.segm.specs.declared.line_mark.LineMark.{LineMark}
 use Rattle.segm.specs.declared.segment.Segment.{Segment}
-use Rattle.history.specs.Rounds.{Use, RoundDone}
+use Rattle.history.specs.Rounds.{RoundDone}
 use Rattle.history.specs.Sheets.{Page, Sound, Tables}
 use Rattle.sheet.specs.Models.{page_of}
 use Rattle.marking.specs.Gathering.{use_of}

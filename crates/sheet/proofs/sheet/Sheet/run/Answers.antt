@@ -1,4 +1,4 @@
-use Rattle.std.proofs.Common.{◌≡◌, ℕ, ◌≤◌, ◌||◌, ltb, sym, refl, ap, ◌∙◌, subst, inl, inr, arith}
+use Rattle.std.proofs.Common.{◌≡◌, ◌||◌, ltb, sym, refl, ap, ◌∙◌, subst, inl, inr, arith}
 use Rattle.history.specs.Rounds.{Use, RoundDone, RoundRefused, RunBroke, broke}
 use Rattle.history.specs.Sheets.{Page}
 use Rattle.history.specs.declared.answers.RunFault.{RunFault}

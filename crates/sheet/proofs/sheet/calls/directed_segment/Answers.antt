@@ -1,4 +1,4 @@
-use Rattle.std.proofs.Common.{◌≡◌, ◌⊎◌, ap, inl, inr, w32, of_z}
+use Rattle.std.proofs.Common.{ap, inl, inr, w32, of_z}
 use Rattle.plane.specs.Points.{Point}
 use Rattle.plane.specs.Models.{plain_point}
 use Rattle.sheet.proofs.Directing.{directed_ok, filled_is}
