@@ -38,7 +38,7 @@ impl<'a, C: WindingCount> Sheet<'a, C> {
         start: u32,
         step: u32,
     ) -> Sheet<'a, C>
-        ensures opened { page_of result ≡ opening (record { edges = length edges.entry.now; spare = length spare.old; marks = length marks.old }) start step }
+        ensures opened { page_of result ≡ opening (record { edges = length edges.old; spare = length spare.old; marks = length marks.old }) start step }
         ensures held { Held C.WindingCount.kind result }
         ensures laws { HistoryLaws C.WindingCount.kind }
         ensures worked { WorkedSheets }
