@@ -4,7 +4,8 @@
 usage: tools/respell.py        at the top of the repository, once, right after port.py
 
 Only names with a dash that some file of ours declares are turned, and each in every .antt and .rt file and in every must-fail edit. Names of
-the libraries, and the names that Rattle makes (goals, steps of a proof), stay. A name that would meet another one is told and stays.
+the libraries, and the names that Rattle makes (goals, steps of a proof), stay. A name that meets another
+word or name is told, and turned all the same: whoever runs it looks.
 """
 import os
 import re
