@@ -1,10 +1,11 @@
 -- The marks of a list of edges at the snap exponent s: on each edge, those of its crossings with all edges.
 use Rattle.std.specs.Prelude.{◌≡◌, ℕ, suc, Bool, false, ◌||◌, List, [], ◌∷◌, ◌++◌, map}
-use Rattle.std.specs.Ordering.{is_eq, nat_cmp, int_cmp, ordering_then}
+use Rattle.std.specs.Ordering.{is_eq, nat_cmp, ordering_then}
 use Rattle.plane.specs.Points.{Point}
+use Rattle.plane.specs.PointOf.{point_of}
 use Rattle.plane.specs.Edges.{Edge}
 use Rattle.plane.specs.Rules.{marked_on, rounded?}
-use Rattle.segm.specs.Marks.{mark_key}
+use Rattle.segm.specs.Orders.{point_order}
 use Rattle.segm.specs.Marked as listing
 use Rattle.segm.specs.declared.line_mark.LineMark.{LineMark}
 
@@ -38,7 +39,7 @@ any_rounded? s gs (e ∷ es) = rounded_on? s e gs || any_rounded? s gs es
 
 -- m marks the spot t
 abbrev pub at? : Spot → LineMark → Bool
-at? t m = is_eq (ordering_then (nat_cmp (mark_key m).0 t.edge) (ordering_then (int_cmp (mark_key m).1.0 t.point.x) (int_cmp (mark_key m).1.1 t.point.y)))
+at? t m = is_eq (ordering_then (nat_cmp m.index t.edge) (point_order (point_of m.point) t.point))
 
 abbrev pub at_one? : List Spot → LineMark → Bool
 at_one? [] m = false

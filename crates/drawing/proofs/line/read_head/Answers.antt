@@ -10,12 +10,12 @@ use Rattle.drawing.proofs.Texts.{head_only}
 use Rattle.drawing.proofs.line.read_head.Goals as goal
 
 -- the letter was compared with one that stands in the code
-another : (letter p : List ℕ) → true ≡ not (pointwise eqb letter p) → p ≡ 80 ∷ [] → letter ≡ 80 ∷ [] → ⊥
-another letter p e is same =
+other_letter : (letter p : List ℕ) → true ≡ not (pointwise eqb letter p) → p ≡ 80 ∷ [] → letter ≡ 80 ∷ [] → ⊥
+other_letter letter p e is same =
     not_from_Decides (pointwise eqb letter p) (slice_eq-Decides Decides-eqb letter p _ refl) (not-true _ (sym e)) (same ∙ sym is)
 
-the_letter : (letter p : List ℕ) → false ≡ not (pointwise eqb letter p) → p ≡ 80 ∷ [] → letter ≡ 80 ∷ []
-the_letter letter p e is = (slice_eq-Decides Decides-eqb letter p _ refl).0 (not-false _ (sym e)) ∙ is
+same_letter : (letter p : List ℕ) → false ≡ not (pointwise eqb letter p) → p ≡ 80 ∷ [] → letter ≡ 80 ∷ []
+same_letter letter p e is = (slice_eq-Decides Decides-eqb letter p _ refl).0 (not-false _ (sym e)) ∙ is
 
 pub returns-in_default : goal.returns-in_default
 returns-in_default c =
@@ -24,13 +24,13 @@ returns-in_default c =
 
 pub returns-then-ne : goal.returns-then-ne
 returns-then-ne c =
-    let other = another _ _ c.if-ne.ensures c.as_slice.ensures in
+    let other = other_letter _ _ c.if-ne.ensures c.as_slice.ensures in
     let said = sym (ap head_of c.in-Some.ensures.0 ∙ head_other c.in-Some.exponent.now c.in-Some.letter.now other) in
     record { said = said; written = head_only c.args.line.now (Err HeadForm) said }
 
 pub returns-in-Ok : goal.returns-in-Ok
 returns-in-Ok c =
-    let letter = the_letter _ _ c.if-ne.ensures c.as_slice.ensures in
+    let letter = same_letter _ _ c.if-ne.ensures c.as_slice.ensures in
     let said =
     sym (ap head_of c.in-Some.ensures.0 ∙ head_letter c.in-Some.exponent.now c.in-Some.letter.now letter
     ∙ ap exponent_of (sym c.in-Ok.ensures.value)) in
@@ -38,7 +38,7 @@ returns-in-Ok c =
 
 pub returns-in-Err : goal.returns-in-Err
 returns-in-Err c =
-    let letter = the_letter _ _ c.if-ne.ensures c.as_slice.ensures in
+    let letter = same_letter _ _ c.if-ne.ensures c.as_slice.ensures in
     let said =
     ap (λ f. Err f) c.reason.ensures
     ∙ sym (ap head_of c.in-Some.ensures.0 ∙ head_letter c.in-Some.exponent.now c.in-Some.letter.now letter
