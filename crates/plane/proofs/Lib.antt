@@ -1,5 +1,6 @@
 pub mod Points
 pub mod Tests
+pub mod Orders
 pub mod Signs
 pub mod Fractions
 pub mod Lines

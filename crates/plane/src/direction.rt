@@ -8,7 +8,7 @@ use crate::int_point::IntPoint;
 use crate::offset::Offset;
 
 /// Where the third of three points lies, seen on the way from the first to the second.
-#[derive(Clone, Copy)]
+#[derive(Clone, Copy, PartialEq, Eq)]
 pub enum Direction {
     Left,
     Straight,
@@ -34,21 +34,13 @@ impl Direction {
     pub fn is(self, other: Direction) -> bool
         ensures { result ≡ same? self other }
     {
-        match (self, other) {
-            (Direction::Left, Direction::Left) => true,
-            (Direction::Straight, Direction::Straight) => true,
-            (Direction::Right, Direction::Right) => true,
-            _ => false,
-        }
+        self == other
     }
 
     /// 1 where the direction is zero, else 0.
     pub fn zeros(self) -> u8
         ensures { result ≡ zero_of self }
     {
-        match self {
-            Direction::Straight => 1,
-            _ => 0,
-        }
+        u8::from(self == Direction::Straight)
     }
 }

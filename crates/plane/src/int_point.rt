@@ -4,7 +4,7 @@ ghost use Rattle.std.specs.Prelude.{◌≤◌, nat_abs};
 
 pub mod methods;
 
-#[derive(Clone, Copy)]
+#[derive(Clone, Copy, PartialEq, Eq, PartialOrd, Ord)]
 pub struct IntPoint {
     pub x: i32,
     pub y: i32,

@@ -7,7 +7,7 @@ pub mod methods;
 
 use crate::int_point::IntPoint;
 
-#[derive(Clone, Copy)]
+#[derive(Clone, Copy, PartialEq, Eq, PartialOrd, Ord)]
 pub struct XSegment {
     pub a: IntPoint,
     pub b: IntPoint,

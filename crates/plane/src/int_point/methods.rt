@@ -2,11 +2,12 @@
 ghost use Rattle.std.specs.Prelude.{◌≡◌, ◌^◌, ◌≤◌, ◌+ℤ◌};
 ghost use Rattle.plane.specs.Points.{Point, InRange, before?, distance};
 ghost use Rattle.plane.specs.PointOf.{point_of};
-ghost use Rattle.plane.specs.Models.{MadePoint};
+ghost use Rattle.plane.specs.Models.{plain_point, MadePoint};
 
 use crate::fault::Fault;
 use crate::int_point::IntPoint;
 use crate::offset::Offset;
+use crate::plain_point::PlainPoint;
 
 /// The largest magnitude of a coordinate.
 const LIMIT: i32 = 524288;
@@ -26,7 +27,7 @@ impl IntPoint {
     pub fn is_before(self, other: IntPoint) -> bool
         ensures { result ≡ before? (point_of self) (point_of other) }
     {
-        self.x < other.x || (self.x <= other.x && self.y < other.y)
+        self < other
     }
 
     /// The squared distance to another point.
@@ -47,5 +48,16 @@ impl IntPoint {
             x: (self.x as i64 + x) as i32,
             y: (self.y as i64 + y) as i32,
         }
+    }
+}
+
+/// The point with the same coordinates, refused where one is outside.
+impl TryFrom<PlainPoint> for IntPoint {
+    type Error = Fault;
+
+    ghost try_from_gives = { λ p r. MadePoint (plain_point p) r };
+
+    fn try_from(p: PlainPoint) -> Result<IntPoint, Fault> {
+        IntPoint::new(p.x, p.y)
     }
 }
