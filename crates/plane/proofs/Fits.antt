@@ -10,6 +10,9 @@ fits x n h g = omega (arith, ints)
 pub off64 : (a : ℤ) → nat_abs a ≤ 2 ^ 20 → SFits w64 a
 off64 a h = omega (arith, ints)
 
+pub part64 : (a : ℤ) → nat_abs a ≤ 2 ^ 41 → SFits w64 a
+part64 a h = omega (arith, ints)
+
 -- |a| ≤ 2^20: the product with b
 pub sized : (a b : ℤ) → nat_abs a ≤ 2 ^ 20 → nat_abs (a *ℤ b) ≤ 2 ^ 20 * nat_abs b
 sized a b h = abs_mul_le a b (2 ^ 20) (nat_abs b) h (omega arith)

@@ -1,10 +1,14 @@
 -- What is marked, by the way in which two edges meet.
-use Rattle.std.proofs.Common.{◌≡◌, ℕ, ◌+◌, ◌<◌, ◌≤◌, min, Bool, true, false, cond, ◌&&◌, eqb, ltb, leb, List, ◌++◌, ℤ, pos, sym, refl, ap, ◌∙◌, subst, arith}
+use Rattle.std.proofs.Common.{◌≡◌, ℕ, ◌+◌, ◌<◌, ◌≤◌, min, Bool, true, false, cond, ◌&&◌, eqb, ltb, leb, List, ◌++◌, Option, ℤ, pos, sym, refl, ap, ◌∙◌, subst, arith}
 use Rattle.algebra.proofs.Ring.{◌⊖◌, ◌⊗◌, ◌≐◌, k, ring₄}
 use Rattle.plane.specs.Points.{Point, cross, distance}
 use Rattle.plane.specs.Edges.{Edge, direction, zero_of, same?, straight?, first, second, zeros, smaller?, between?}
 use Rattle.plane.specs.Rounding.{taken, zero?, on_lines?, reach, gap, nearer}
 use Rattle.plane.specs.Rules.{Marking, listed, nothing, on_both, on_target, on_other, overlaid, end_marked, snapped, inner_marked, marking, marked_on, rounded?}
+use Rattle.std.specs.Bool.{then_some}
+use Rattle.plane.specs.PointOf.{point_of}
+use Rattle.plane.specs.Models.{point_if}
+use Rattle.plane.specs.declared.int_point.IntPoint.{IntPoint}
 use Rattle.plane.specs.Answers.{meeting, Tells, Answered}
 use Rattle.plane.specs.declared.cross_solver.CrossType.{CrossType}
 use Rattle.plane.specs.declared.cross_solver.CrossType.TheVariants as type
@@ -171,6 +175,17 @@ answered t o s p r type.OtherEnd m z e h = (z, e ∙ h)
 answered t o s p r type.Overlay m z e h = absurd h
 
 -- the marks of edges on one line, by four tests
+-- the points of a test each
+pub listed_if : (l : List Point) (p q : Option IntPoint) (a b : Bool) (u v : IntPoint) → l ≡ point_if p ++ point_if q
+    → p ≡ then_some a u → q ≡ then_some b v → l ≡ listed a (point_of u) ++ listed b (point_of v)
+listed_if l p q a b u v e f g = e ∙ rw (f, g) (go a b)
+  where
+    go : (a b : Bool) → point_if (then_some a u) ++ point_if (then_some b v) ≡ listed a (point_of u) ++ listed b (point_of v)
+    go true true = refl
+    go true false = refl
+    go false true = refl
+    go false false = refl
+
 pub overlay_marks : (t o : Edge) (s : ℕ) (on_t on_o : List Point) (r ta tb oa ob : Bool) → zeros t o ≡ 4 → r ≡ false
     → on_t ≡ listed oa o.a ++ listed ob o.b → on_o ≡ listed ta t.a ++ listed tb t.b
     → ta ≡ between? o t.a → tb ≡ between? o t.b → oa ≡ between? t o.a → ob ≡ between? t o.b

@@ -5,6 +5,9 @@ use lib.Signed.{lt_z}
 use Rattle.plane.specs.Points.{Point, cross}
 use Rattle.plane.specs.Edges.{direction, straight?}
 use Rattle.plane.specs.Rounding.{zero?}
+use denote.Enum.Bare.{sameb}
+use Rattle.plane.specs.contracts.direction.Direction.{the_type}
+use Rattle.plane.specs.declared.direction.Direction.{Direction}
 use Rattle.plane.specs.declared.direction.Direction.TheVariants.{Left, Straight, Right}
 
 pub is_left : (z : ℤ) → lt_z (pos 0) z ≡ true → Left ≡ direction z
@@ -31,3 +34,9 @@ pub zero_straight : (z : ℤ) → zero? z ≡ straight? (direction z)
 zero_straight (pos zero) = refl
 zero_straight (pos (suc n)) = grind arith
 zero_straight (negsuc n) = grind arith
+
+-- the derived `==` at Straight
+pub straight_eq : (d : Direction) → sameb the_type d Straight ≡ straight? d
+straight_eq Left = refl
+straight_eq Straight = refl
+straight_eq Right = refl

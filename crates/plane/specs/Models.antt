@@ -34,6 +34,11 @@ abbrev pub MadeEdge : Point → Point → Result XSegment Fault → Type 0
 MadeEdge p q (Ok s) = edge_of s ≡ edge_between p q
 MadeEdge p q (Err f) = (f ≡ EndsEqual) × (p ≡ q)
 
+-- the point, if there is one
+abbrev pub point_if : Option IntPoint → List Point
+point_if None = []
+point_if (Some p) = point_of p ∷ []
+
 abbrev pub points_of : EdgeMarks → List Point
 points_of Zero = []
 points_of (One p) = point_of p ∷ []

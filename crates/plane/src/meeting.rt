@@ -4,7 +4,7 @@ ghost use Rattle.plane.specs.Answers.{meeting, meeting_by, end_met};
 ghost use Rattle.plane.specs.Models.{edge_of};
 
 use crate::direction::Direction;
-use crate::x_segment::XSegment;
+use crate::pair::Pair;
 
 #[derive(Clone, Copy)]
 pub(crate) enum Meeting {
@@ -23,9 +23,10 @@ pub(crate) enum Meeting {
 
 impl Meeting {
     /// How a target and another edge meet.
-    pub(crate) fn of(target: &XSegment, other: &XSegment) -> Meeting
-        ensures { result ≡ meeting (edge_of target.now) (edge_of other.now) }
+    pub(crate) fn of(pair: Pair) -> Meeting
+        ensures { result ≡ meeting (edge_of pair.target) (edge_of pair.other) }
     {
+        let Pair { target, other } = pair;
         let other_a = Direction::of(target.a, target.b, other.a);
         let other_b = Direction::of(target.a, target.b, other.b);
         let target_a = Direction::of(other.a, other.b, target.a);
@@ -46,7 +47,7 @@ impl Meeting {
         if zeros == 4 {
             return Meeting::Aligned;
         }
-        if zeros > 1 || other_a.is(other_b) || target_a.is(target_b) {
+        if zeros > 1 || other_a == other_b || target_a == target_b {
             return Meeting::Apart;
         }
         if zeros == 0 {

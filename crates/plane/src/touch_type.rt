@@ -3,8 +3,8 @@ ghost use Rattle.std.specs.Prelude.{◌≡◌};
 ghost use Rattle.plane.specs.Edges.{zeros};
 ghost use Rattle.plane.specs.Models.{edge_of, TouchesAs};
 
-use crate::cross_solver::CrossSolver;
 use crate::meeting::Meeting;
+use crate::pair::Pair;
 use crate::x_segment::XSegment;
 
 #[derive(Clone, Copy)]
@@ -22,8 +22,12 @@ impl TouchType {
     pub fn of(first: &XSegment, second: &XSegment) -> Option<TouchType>
         ensures { TouchesAs (edge_of first.now) (edge_of second.now) result }
     {
-        match Meeting::of(first, second) {
-            Meeting::Aligned => TouchType::on_one_line(first, second),
+        let pair = Pair {
+            target: *first,
+            other: *second,
+        };
+        match Meeting::of(pair) {
+            Meeting::Aligned => TouchType::on_one_line(pair),
             Meeting::Apart => None,
             Meeting::Crossed => Some(TouchType::Inner),
             _ => Some(TouchType::End),
@@ -31,14 +35,14 @@ impl TouchType {
     }
 
     /// The same for edges on one line: they touch where an end is strictly between those of the partner, or where they are equal.
-    fn on_one_line(first: &XSegment, second: &XSegment) -> Option<TouchType>
-        requires { zeros (edge_of first.now) (edge_of second.now) ≡ 4 }
-        ensures { TouchesAs (edge_of first.now) (edge_of second.now) result }
+    fn on_one_line(pair: Pair) -> Option<TouchType>
+        requires { zeros (edge_of pair.target) (edge_of pair.other) ≡ 4 }
+        ensures { TouchesAs (edge_of pair.target) (edge_of pair.other) result }
     {
-        if first.is_equal(second) {
+        if pair.target.is_equal(&pair.other) {
             return Some(TouchType::Overlay);
         }
-        if CrossSolver::collinear(first, second).has_any() {
+        if pair.collinear().has_any() {
             return Some(TouchType::Overlay);
         }
         None

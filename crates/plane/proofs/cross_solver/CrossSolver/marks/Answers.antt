@@ -8,7 +8,7 @@ use Rattle.plane.proofs.cross_solver.CrossSolver.marks.Goals as goal
 pub returns-then-is_smaller : goal.returns-then-is_smaller
 returns-then-is_smaller c =
     let w = given_turned (edge_of c.args.first.now) (edge_of c.args.second.now) c.args.radius.current _ _ _ (sym c.is_smaller.ensures ∙ c.if-is_smaller.true)
-    c.target_marks-turned.ensures.target c.target_marks-turned.ensures.other c.target_marks-turned.ensures.flag in
+    c.marks-turned.ensures.target c.marks-turned.ensures.other c.marks-turned.ensures.flag in
     let l = pair_laws c.args.first.now c.args.second.now c.args.radius.current in
     record {
       on_first = w.on_first;
@@ -29,7 +29,7 @@ returns-then-is_smaller c =
 pub returns : goal.returns
 returns c =
     let w = given_straight (edge_of c.args.first.now) (edge_of c.args.second.now) c.args.radius.current _ _ _ (sym c.is_smaller.ensures ∙ c.if-is_smaller.false)
-    c.target_marks.ensures.target c.target_marks.ensures.other c.target_marks.ensures.flag in
+    c.marks.ensures.target c.marks.ensures.other c.marks.ensures.flag in
     let l = pair_laws c.args.first.now c.args.second.now c.args.radius.current in
     record {
       on_first = w.on_first;

@@ -1,14 +1,14 @@
 use Rattle.std.proofs.Common.{w64, SFits}
 use Rattle.std.proofs.lemmas.Int.{to_z-of_z}
 use Rattle.plane.specs.Models.{edge_of}
-use Rattle.plane.proofs.Taken.{denom_by}
-use Rattle.plane.proofs.cross_solver.CrossSolver.denominator.Goals as goal
+use Rattle.plane.proofs.Taken.{numer_by}
+use Rattle.plane.proofs.pair.Pair.numerator.Goals as goal
 
 pub returns : goal.returns
 returns c =
     let f : SFits w64 c.cross_product.result = record { sfits = c.cross_product.type_inv } in
     record {
-      value = simp to_z-of_z (denom_by (edge_of c.args.target.now) (edge_of c.args.other.now) _ _ _ _ _ c.cross_product.ensures.value
+      value = simp to_z-of_z (numer_by (edge_of c.args.self.target) (edge_of c.args.self.other) _ _ _ _ _ c.cross_product.ensures.value
           c.between.ensures.x c.between.ensures.y c.between-2.ensures.x c.between-2.ensures.y);
       size = simp to_z-of_z c.cross_product.ensures.size;
     }
