@@ -31,6 +31,7 @@ pub struct CrossResult {
 }
 
 /// Which ends of two edges lie strictly between the ends of their partner, in the order of points.
+// Stays: four flags, under the name that they have in i_overlay.
 #[derive(Clone, Copy)]
 pub struct EndMask {
     pub is_target_a: bool,
@@ -98,8 +99,8 @@ impl CrossSolver {
     {
         if second.is_smaller(first) {
             let pair = Pair {
-                target: *second,
-                other: *first,
+                target: second,
+                other: first,
             };
             let turned = pair.marks(radius);
             return CrossMarks {
@@ -109,8 +110,8 @@ impl CrossSolver {
             };
         }
         let pair = Pair {
-            target: *first,
-            other: *second,
+            target: first,
+            other: second,
         };
         pair.marks(radius)
     }
@@ -119,10 +120,6 @@ impl CrossSolver {
     pub fn cross(target: &XSegment, other: &XSegment, radius: SnapRadius) -> Option<CrossResult>
         ensures { Answers (edge_of target.now) (edge_of other.now) radius.current result }
     {
-        let pair = Pair {
-            target: *target,
-            other: *other,
-        };
-        pair.cross(radius)
+        Pair { target, other }.cross(radius)
     }
 }

@@ -22,6 +22,7 @@ pub enum Fault {
 
 impl Fault {
     /// The number under which a refusal is told.
+    // Stays: the name says which number it is; `u32::from` would not.
     pub fn number(self) -> u32
         ensures { result ≡ number self }
     {

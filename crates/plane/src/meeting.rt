@@ -24,7 +24,7 @@ pub(crate) enum Meeting {
 impl Meeting {
     /// How a target and another edge meet.
     pub(crate) fn of(pair: Pair) -> Meeting
-        ensures { result ≡ meeting (edge_of pair.target) (edge_of pair.other) }
+        ensures { result ≡ meeting (edge_of pair.entry.target.now) (edge_of pair.entry.other.now) }
     {
         let Pair { target, other } = pair;
         let other_a = Direction::of(target.a, target.b, other.a);

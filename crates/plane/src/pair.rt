@@ -19,17 +19,17 @@ use crate::x_segment::XSegment;
 
 /// A target and another edge.
 #[derive(Clone, Copy)]
-pub(crate) struct Pair {
-    pub target: XSegment,
-    pub other: XSegment,
+pub(crate) struct Pair<'a> {
+    pub target: &'a XSegment,
+    pub other: &'a XSegment,
 }
 
-impl Pair {
+impl Pair<'_> {
     /// What their crossing marks, the target being the first.
     pub(crate) fn marks(self, radius: SnapRadius) -> CrossMarks
-        ensures target { points_of result.first ≡ (marking (edge_of self.target) (edge_of self.other) radius.current).target }
-        ensures other { points_of result.second ≡ (marking (edge_of self.target) (edge_of self.other) radius.current).other }
-        ensures flag { result.is_round ≡ (marking (edge_of self.target) (edge_of self.other) radius.current).rounded }
+        ensures target { points_of result.first ≡ (marking (edge_of self.entry.target.now) (edge_of self.entry.other.now) radius.current).target }
+        ensures other { points_of result.second ≡ (marking (edge_of self.entry.target.now) (edge_of self.entry.other.now) radius.current).other }
+        ensures flag { result.is_round ≡ (marking (edge_of self.entry.target.now) (edge_of self.entry.other.now) radius.current).rounded }
     {
         let Some(cross) = self.cross(radius) else {
             return CrossMarks {
@@ -76,10 +76,10 @@ impl Pair {
 
     /// What the rules answer.
     pub(crate) fn cross(self, radius: SnapRadius) -> Option<CrossResult>
-        ensures { Answers (edge_of self.target) (edge_of self.other) radius.current result }
+        ensures { Answers (edge_of self.entry.target.now) (edge_of self.entry.other.now) radius.current result }
     {
         match Meeting::of(self) {
-            // Stays: the point of an overlay is not used; the answer has the form that it has in i_overlay
+            // Stays: nothing is said of this point; a result has the form that it has in i_overlay.
             Meeting::Aligned => Some(CrossResult {
                 point: IntPoint { x: 0, y: 0 },
                 cross_type: CrossType::Overlay,
@@ -112,10 +112,10 @@ impl Pair {
 
     /// Which ends lie strictly between those of the partner.
     pub(crate) fn collinear(self) -> EndMask
-        ensures target_a { result.is_target_a ≡ between? (edge_of self.other) (point_of self.target.a) }
-        ensures target_b { result.is_target_b ≡ between? (edge_of self.other) (point_of self.target.b) }
-        ensures other_a { result.is_other_a ≡ between? (edge_of self.target) (point_of self.other.a) }
-        ensures other_b { result.is_other_b ≡ between? (edge_of self.target) (point_of self.other.b) }
+        ensures target_a { result.is_target_a ≡ between? (edge_of self.entry.other.now) (point_of self.entry.target.now.a) }
+        ensures target_b { result.is_target_b ≡ between? (edge_of self.entry.other.now) (point_of self.entry.target.now.b) }
+        ensures other_a { result.is_other_a ≡ between? (edge_of self.entry.target.now) (point_of self.entry.other.now.a) }
+        ensures other_b { result.is_other_b ≡ between? (edge_of self.entry.target.now) (point_of self.entry.other.now.b) }
     {
         let Pair { target, other } = self;
         EndMask {
@@ -128,8 +128,8 @@ impl Pair {
 
     /// An inner crossing: the point taken, or the end that it is near to.
     fn middle_cross(self, radius: SnapRadius) -> CrossResult
-        requires { Inner (edge_of self.target) (edge_of self.other) }
-        ensures { Shows result (inner_marked (edge_of self.target) (edge_of self.other) radius.current (taken (edge_of self.target) (edge_of self.other))) }
+        requires { Inner (edge_of self.target.now) (edge_of self.other.now) }
+        ensures { Shows result (inner_marked (edge_of self.entry.target.now) (edge_of self.entry.other.now) radius.current (taken (edge_of self.entry.target.now) (edge_of self.entry.other.now))) }
     {
         let point = self.cross_point();
         if self.on_lines(point) {
@@ -144,7 +144,7 @@ impl Pair {
 
     /// Whether a point is on the lines of both edges.
     fn on_lines(self, point: IntPoint) -> bool
-        ensures { result ≡ on_lines? (edge_of self.target) (edge_of self.other) (point_of point) }
+        ensures { result ≡ on_lines? (edge_of self.entry.target.now) (edge_of self.entry.other.now) (point_of point) }
     {
         let Pair { target, other } = self;
         Direction::of(target.a, target.b, point) == Direction::Straight
@@ -153,7 +153,7 @@ impl Pair {
 
     /// A rounded crossing: near an end, the nearest end takes the point's place.
     fn snap(self, point: IntPoint, near: u64) -> CrossResult
-        ensures { Shows result (snapped (edge_of self.target) (edge_of self.other) (point_of point) near) }
+        ensures { Shows result (snapped (edge_of self.entry.target.now) (edge_of self.entry.other.now) (point_of point) near) }
     {
         let Pair { target, other } = self;
         let target_a = point.sqr_distance(target.a);
@@ -192,8 +192,8 @@ impl Pair {
 
     /// The whole point taken for an inner crossing, by its part of the way along the target.
     fn cross_point(self) -> IntPoint
-        requires { Inner (edge_of self.target) (edge_of self.other) }
-        ensures { point_of result ≡ taken (edge_of self.target) (edge_of self.other) }
+        requires { Inner (edge_of self.target.now) (edge_of self.other.now) }
+        ensures { point_of result ≡ taken (edge_of self.entry.target.now) (edge_of self.entry.other.now) }
     {
         let along = Offset::between(self.target.a, self.target.b);
         let part = self.part();
@@ -204,9 +204,9 @@ impl Pair {
 
     /// Which part of the way along the target an inner crossing lies.
     fn part(self) -> Ratio
-        requires { Inner (edge_of self.target) (edge_of self.other) }
-        ensures n { result.n ≡ numer (edge_of self.target) (edge_of self.other) }
-        ensures d { result.d ≡ denom (edge_of self.target) (edge_of self.other) }
+        requires { Inner (edge_of self.target.now) (edge_of self.other.now) }
+        ensures n { result.n ≡ numer (edge_of self.entry.target.now) (edge_of self.entry.other.now) }
+        ensures d { result.d ≡ denom (edge_of self.entry.target.now) (edge_of self.entry.other.now) }
     {
         Ratio {
             n: self.numerator(),
@@ -216,7 +216,7 @@ impl Pair {
 
     /// The cross product of the offsets from the target's first end to the ends of the other edge.
     fn numerator(self) -> i64
-        ensures value { result ≡ numer (edge_of self.target) (edge_of self.other) }
+        ensures value { result ≡ numer (edge_of self.entry.target.now) (edge_of self.entry.other.now) }
         ensures size { unsigned_abs result ≤ 2 ^ 41 }
     {
         let Pair { target, other } = self;
@@ -225,7 +225,7 @@ impl Pair {
 
     /// The cross product of the target and the other edge, each from its first end to its second.
     fn denominator(self) -> i64
-        ensures value { result ≡ denom (edge_of self.target) (edge_of self.other) }
+        ensures value { result ≡ denom (edge_of self.entry.target.now) (edge_of self.entry.other.now) }
         ensures size { unsigned_abs result ≤ 2 ^ 41 }
     {
         let Pair { target, other } = self;

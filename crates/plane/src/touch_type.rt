@@ -23,8 +23,8 @@ impl TouchType {
         ensures { TouchesAs (edge_of first.now) (edge_of second.now) result }
     {
         let pair = Pair {
-            target: *first,
-            other: *second,
+            target: first,
+            other: second,
         };
         match Meeting::of(pair) {
             Meeting::Aligned => TouchType::on_one_line(pair),
@@ -36,10 +36,10 @@ impl TouchType {
 
     /// The same for edges on one line: they touch where an end is strictly between those of the partner, or where they are equal.
     fn on_one_line(pair: Pair) -> Option<TouchType>
-        requires { zeros (edge_of pair.target) (edge_of pair.other) ≡ 4 }
-        ensures { TouchesAs (edge_of pair.target) (edge_of pair.other) result }
+        requires { zeros (edge_of pair.target.now) (edge_of pair.other.now) ≡ 4 }
+        ensures { TouchesAs (edge_of pair.entry.target.now) (edge_of pair.entry.other.now) result }
     {
-        if pair.target.is_equal(&pair.other) {
+        if pair.target.is_equal(pair.other) {
             return Some(TouchType::Overlay);
         }
         if pair.collinear().has_any() {

@@ -8,9 +8,9 @@ use Rattle.plane.proofs.pair.Pair.marks.Goals as goal
 
 pub returns-in-Overlay : goal.returns-in-Overlay
 returns-in-Overlay c =
-    let h = subst (λ (k : CrossType). Answered (edge_of c.args.self.target) (edge_of c.args.self.other) c.args.radius.current (point_of c.in-Some.cross.point) c.in-Some.cross.is_round k)
+    let h = subst (λ (k : CrossType). Answered (edge_of c.args.self.target.now) (edge_of c.args.self.other.now) c.args.radius.current (point_of c.in-Some.cross.point) c.in-Some.cross.is_round k)
     c.in-Overlay.is c.in-Some.ensures in
-    let w = overlay_marks (edge_of c.args.self.target) (edge_of c.args.self.other) c.args.radius.current _ _ _ _ _ _ _ h.0 h.2
+    let w = overlay_marks (edge_of c.args.self.target.now) (edge_of c.args.self.other.now) c.args.radius.current _ _ _ _ _ _ _ h.0 h.2
     (listed_if _ _ _ _ _ _ _ c.of.ensures c.then_some.ensures c.then_some-in-Overlay.ensures)
     (listed_if _ _ _ _ _ _ _ c.of-in-Overlay.ensures c.then_some-in-Overlay-2.ensures c.then_some-in-Overlay-3.ensures)
     c.collinear-mask.ensures.target_a c.collinear-mask.ensures.target_b c.collinear-mask.ensures.other_a c.collinear-mask.ensures.other_b in

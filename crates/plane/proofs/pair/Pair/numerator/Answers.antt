@@ -8,7 +8,7 @@ pub returns : goal.returns
 returns c =
     let f : SFits w64 c.cross_product.result = record { sfits = c.cross_product.type_inv } in
     record {
-      value = simp to_z-of_z (numer_by (edge_of c.args.self.target) (edge_of c.args.self.other) _ _ _ _ _ c.cross_product.ensures.value
+      value = simp to_z-of_z (numer_by (edge_of c.args.self.target.now) (edge_of c.args.self.other.now) _ _ _ _ _ c.cross_product.ensures.value
           c.between.ensures.x c.between.ensures.y c.between-2.ensures.x c.between-2.ensures.y);
       size = simp to_z-of_z c.cross_product.ensures.size;
     }

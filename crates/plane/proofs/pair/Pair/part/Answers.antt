@@ -11,5 +11,5 @@ invariant_of-result c =
     record {
       n_small = simp to_z-of_z c.numerator.ensures.size;
       d_small = simp to_z-of_z c.denominator.ensures.size;
-      d_nonzero = simp to_z-of_z (denom_some (edge_of c.args.self.target) (edge_of c.args.self.other) _ c.denominator.ensures.value c.requires);
+      d_nonzero = simp to_z-of_z (denom_some (edge_of c.args.self.target.now) (edge_of c.args.self.other.now) _ c.denominator.ensures.value c.requires);
     }

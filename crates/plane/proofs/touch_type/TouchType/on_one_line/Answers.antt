@@ -7,20 +7,20 @@ use Rattle.plane.proofs.touch_type.TouchType.on_one_line.Goals as goal
 
 pub returns-then-is_equal : goal.returns-then-is_equal
 returns-then-is_equal c =
-    as_equal (edge_of c.args.pair.target) (edge_of c.args.pair.other) (proper_of c.args.pair.target)
-    (equal_yes (edge_of c.args.pair.target) (edge_of c.args.pair.other) (sym c.is_equal.ensures ∙ c.if-is_equal.true))
+    as_equal (edge_of c.args.pair.target.now) (edge_of c.args.pair.other.now) (proper_of c.args.pair.target.now)
+    (equal_yes (edge_of c.args.pair.target.now) (edge_of c.args.pair.other.now) (sym c.is_equal.ensures ∙ c.if-is_equal.true))
 
 pub returns-then-has_any : goal.returns-then-has_any
 returns-then-has_any c =
-    as_overlay (edge_of c.args.pair.target) (edge_of c.args.pair.other) (proper_of c.args.pair.target) (proper_of c.args.pair.other) c.requires
-    (any_between (edge_of c.args.pair.target) (edge_of c.args.pair.other) _ _ _ _ _ c.has_any.ensures
+    as_overlay (edge_of c.args.pair.target.now) (edge_of c.args.pair.other.now) (proper_of c.args.pair.target.now) (proper_of c.args.pair.other.now) c.requires
+    (any_between (edge_of c.args.pair.target.now) (edge_of c.args.pair.other.now) _ _ _ _ _ c.has_any.ensures
     c.collinear.ensures.target_a c.collinear.ensures.target_b c.collinear.ensures.other_a c.collinear.ensures.other_b
     ∙ c.if-has_any.true)
 
 pub returns : goal.returns
 returns c =
-    as_aligned_none (edge_of c.args.pair.target) (edge_of c.args.pair.other) (proper_of c.args.pair.target) (proper_of c.args.pair.other) c.requires
-    (equal_no (edge_of c.args.pair.target) (edge_of c.args.pair.other) (sym c.is_equal.ensures ∙ c.if-is_equal.false))
-    (any_between (edge_of c.args.pair.target) (edge_of c.args.pair.other) _ _ _ _ _ c.has_any.ensures
+    as_aligned_none (edge_of c.args.pair.target.now) (edge_of c.args.pair.other.now) (proper_of c.args.pair.target.now) (proper_of c.args.pair.other.now) c.requires
+    (equal_no (edge_of c.args.pair.target.now) (edge_of c.args.pair.other.now) (sym c.is_equal.ensures ∙ c.if-is_equal.false))
+    (any_between (edge_of c.args.pair.target.now) (edge_of c.args.pair.other.now) _ _ _ _ _ c.has_any.ensures
     c.collinear.ensures.target_a c.collinear.ensures.target_b c.collinear.ensures.other_a c.collinear.ensures.other_b
     ∙ c.if-has_any.false)
