@@ -1,7 +1,7 @@
 -- What is marked, by the way in which two edges meet.
-use Rattle.std.proofs.Common.{◌≡◌, ℕ, ◌+◌, ◌<◌, ◌≤◌, min, Bool, true, false, cond, ◌&&◌, eqb, ltb, leb, List, ◌++◌, Option, ℤ, pos, sym, refl, ap, ◌∙◌, subst, arith}
+use Rattle.std.proofs.Common.{◌≡◌, ℕ, ◌+◌, ◌<◌, ◌≤◌, min, Bool, true, false, cond, ◌&&◌, eqb, leb, List, ◌++◌, Option, ℤ, pos, sym, refl, ap, ◌∙◌, subst, arith}
 use Rattle.algebra.proofs.Ring.{◌⊖◌, ◌⊗◌, ◌≐◌, k, ring₄}
-use Rattle.plane.specs.Points.{Point, cross, distance}
+use Rattle.plane.specs.Points.{Point, cross}
 use Rattle.plane.specs.Edges.{Edge, direction, zero_of, same?, straight?, first, second, zeros, smaller?, between?}
 use Rattle.plane.specs.Rounding.{taken, zero?, on_lines?, reach, gap, nearer}
 use Rattle.plane.specs.Rules.{Marking, listed, nothing, on_both, on_target, on_other, overlaid, end_marked, snapped, inner_marked, marking, marked_on, rounded?}
@@ -21,86 +21,26 @@ use Rattle.plane.proofs.Tests.{smaller_asym, not_smaller}
 use Rattle.plane.proofs.Meetings.{Met, met}
 use Rattle.plane.proofs.Markings.{marking_aligned, marking_off, marking_end, marking_inner}
 
--- ---- a rounded crossing, by its distances
--- the distances of p to the four ends, and the least of each edge
-pub record Gaps (t o : Edge) (p : Point) (ta tb oa ob g h : ℕ) : Type 0 where
-  pub target_a : ta ≡ distance p t.a
-  pub target_b : tb ≡ distance p t.b
-  pub other_a : oa ≡ distance p o.a
-  pub other_b : ob ≡ distance p o.b
-  pub target_gap : g ≡ min ta tb
-  pub other_gap : h ≡ min oa ob
-
-gap_t : (t o : Edge) (p : Point) (ta tb oa ob g h : ℕ) → Gaps t o p ta tb oa ob g h → g ≡ gap t p
-gap_t t o p ta tb oa ob g h w = w.target_gap ∙ ap (λ (z : ℕ). min z tb) w.target_a ∙ ap (λ (z : ℕ). min (distance p t.a) z) w.target_b
-
-gap_o : (t o : Edge) (p : Point) (ta tb oa ob g h : ℕ) → Gaps t o p ta tb oa ob g h → h ≡ gap o p
-gap_o t o p ta tb oa ob g h w = w.other_gap ∙ ap (λ (z : ℕ). min z ob) w.other_a ∙ ap (λ (z : ℕ). min (distance p o.a) z) w.other_b
-
+-- ---- a rounded crossing, by the distances to the nearer ends
 leb_yes : (m n : ℕ) → m ≤ n → leb m n ≡ true
 leb_yes m n h = grind arith
 
 leb_no : (m n : ℕ) → n < m → leb m n ≡ false
 leb_no m n h = grind arith
 
-ltb_yes : (m n : ℕ) → m < n → ltb m n ≡ true
-ltb_yes m n h = grind arith
-
-ltb_no : (m n : ℕ) → n ≤ m → ltb m n ≡ false
-ltb_no m n h = grind arith
-
-pub snapped_free : (t o : Edge) (p : Point) (r ta tb oa ob g h m : ℕ) → Gaps t o p ta tb oa ob g h → m ≡ min g h → r < m → snapped t o p r ≡ on_both p true
+by_gaps : (t o : Edge) (p : Point) (r g h m : ℕ) → g ≡ gap t p → h ≡ gap o p → m ≡ min g h
+    → snapped t o p r ≡ cond (leb m r) (cond (leb g h) (on_other (nearer t p) true) (on_target (nearer o p) true)) (on_both p true)
 unfolding snapped
-snapped_free t o p r ta tb oa ob g h m w e l =
-    let eg = gap_t t o p ta tb oa ob g h w in
-    let eh = gap_o t o p ta tb oa ob g h w in
-    let em : m ≡ min (gap t p) (gap o p) = e ∙ ap (λ (z : ℕ). min z h) eg ∙ ap (λ (z : ℕ). min (gap t p) z) eh in
-    ap (λ (b : Bool). cond b (cond (leb (gap t p) (gap o p)) (on_other (nearer t p) true) (on_target (nearer o p) true)) (on_both p true))
-    (ap (λ (z : ℕ). leb z r) (sym em) ∙ leb_no m r l)
+by_gaps t o p r g h m i j e = rw (e, i, j)
 
-near_end : (t o : Edge) (p : Point) (r ta tb oa ob g h m : ℕ) → Gaps t o p ta tb oa ob g h → m ≡ min g h → m ≤ r
-    → snapped t o p r ≡ cond (leb g h) (on_other (nearer t p) true) (on_target (nearer o p) true)
-unfolding snapped
-near_end t o p r ta tb oa ob g h m w e l =
-    let eg = gap_t t o p ta tb oa ob g h w in
-    let eh = gap_o t o p ta tb oa ob g h w in
-    let em : m ≡ min (gap t p) (gap o p) = e ∙ ap (λ (z : ℕ). min z h) eg ∙ ap (λ (z : ℕ). min (gap t p) z) eh in
-    ap (λ (b : Bool). cond b (cond (leb (gap t p) (gap o p)) (on_other (nearer t p) true) (on_target (nearer o p) true)) (on_both p true))
-    (ap (λ (z : ℕ). leb z r) (sym em) ∙ leb_yes m r l)
-    ∙ ap (λ (z : ℕ). cond (leb z (gap o p)) (on_other (nearer t p) true) (on_target (nearer o p) true)) (sym eg)
-    ∙ ap (λ (z : ℕ). cond (leb g z) (on_other (nearer t p) true) (on_target (nearer o p) true)) (sym eh)
+pub snapped_free : (t o : Edge) (p : Point) (r g h m : ℕ) → g ≡ gap t p → h ≡ gap o p → m ≡ min g h → r < m → snapped t o p r ≡ on_both p true
+snapped_free t o p r g h m i j e l = by_gaps t o p r g h m i j e ∙ rw (leb_no m r l)
 
-nearer_first : (e : Edge) (p : Point) (a b : ℕ) → a ≡ distance p e.a → b ≡ distance p e.b → a < b → nearer e p ≡ e.a
-nearer_first e p a b ea eb l =
-    ap (λ (z : Bool). cond z e.a e.b) (ap (λ (z : ℕ). ltb z (distance p e.b)) (sym ea) ∙ ap (λ (z : ℕ). ltb a z) (sym eb) ∙ ltb_yes a b l)
+pub snapped_target : (t o : Edge) (p q : Point) (r g h m : ℕ) → g ≡ gap t p → h ≡ gap o p → m ≡ min g h → m ≤ r → g ≤ h → q ≡ nearer t p → snapped t o p r ≡ on_other q true
+snapped_target t o p q r g h m i j e l d n = by_gaps t o p r g h m i j e ∙ rw (leb_yes m r l, leb_yes g h d, n)
 
-nearer_second : (e : Edge) (p : Point) (a b : ℕ) → a ≡ distance p e.a → b ≡ distance p e.b → b ≤ a → nearer e p ≡ e.b
-nearer_second e p a b ea eb l =
-    ap (λ (z : Bool). cond z e.a e.b) (ap (λ (z : ℕ). ltb z (distance p e.b)) (sym ea) ∙ ap (λ (z : ℕ). ltb a z) (sym eb) ∙ ltb_no a b l)
-
-pub snapped_target_a : (t o : Edge) (p : Point) (r ta tb oa ob g h m : ℕ) → Gaps t o p ta tb oa ob g h → m ≡ min g h → m ≤ r → g ≤ h → ta < tb → snapped t o p r ≡ on_other t.a true
-snapped_target_a t o p r ta tb oa ob g h m w e l i j =
-    near_end t o p r ta tb oa ob g h m w e l
-    ∙ ap (λ (b : Bool). cond b (on_other (nearer t p) true) (on_target (nearer o p) true)) (leb_yes g h i)
-    ∙ ap (λ (q : Point). on_other q true) (nearer_first t p ta tb w.target_a w.target_b j)
-
-pub snapped_target_b : (t o : Edge) (p : Point) (r ta tb oa ob g h m : ℕ) → Gaps t o p ta tb oa ob g h → m ≡ min g h → m ≤ r → g ≤ h → tb ≤ ta → snapped t o p r ≡ on_other t.b true
-snapped_target_b t o p r ta tb oa ob g h m w e l i j =
-    near_end t o p r ta tb oa ob g h m w e l
-    ∙ ap (λ (b : Bool). cond b (on_other (nearer t p) true) (on_target (nearer o p) true)) (leb_yes g h i)
-    ∙ ap (λ (q : Point). on_other q true) (nearer_second t p ta tb w.target_a w.target_b j)
-
-pub snapped_other_a : (t o : Edge) (p : Point) (r ta tb oa ob g h m : ℕ) → Gaps t o p ta tb oa ob g h → m ≡ min g h → m ≤ r → h < g → oa < ob → snapped t o p r ≡ on_target o.a true
-snapped_other_a t o p r ta tb oa ob g h m w e l i j =
-    near_end t o p r ta tb oa ob g h m w e l
-    ∙ ap (λ (b : Bool). cond b (on_other (nearer t p) true) (on_target (nearer o p) true)) (leb_no g h i)
-    ∙ ap (λ (q : Point). on_target q true) (nearer_first o p oa ob w.other_a w.other_b j)
-
-pub snapped_other_b : (t o : Edge) (p : Point) (r ta tb oa ob g h m : ℕ) → Gaps t o p ta tb oa ob g h → m ≡ min g h → m ≤ r → h < g → ob ≤ oa → snapped t o p r ≡ on_target o.b true
-snapped_other_b t o p r ta tb oa ob g h m w e l i j =
-    near_end t o p r ta tb oa ob g h m w e l
-    ∙ ap (λ (b : Bool). cond b (on_other (nearer t p) true) (on_target (nearer o p) true)) (leb_no g h i)
-    ∙ ap (λ (q : Point). on_target q true) (nearer_second o p oa ob w.other_a w.other_b j)
+pub snapped_other : (t o : Edge) (p q : Point) (r g h m : ℕ) → g ≡ gap t p → h ≡ gap o p → m ≡ min g h → m ≤ r → h < g → q ≡ nearer o p → snapped t o p r ≡ on_target q true
+snapped_other t o p q r g h m i j e l d n = by_gaps t o p r g h m i j e ∙ rw (leb_yes m r l, leb_no g h d, n)
 
 -- ---- on both lines, by two directions
 on_line : (e : Edge) (p : Point) (a : Bool) (d : Direction) → d ≡ direction (cross e.a e.b p) → a ≡ same? d Straight → zero? (cross e.a e.b p) ≡ a

@@ -155,13 +155,8 @@ impl Pair<'_> {
     fn snap(self, point: IntPoint, near: u64) -> CrossResult
         ensures { Shows result (snapped (edge_of self.entry.target.now) (edge_of self.entry.other.now) (point_of point) near) }
     {
-        let Pair { target, other } = self;
-        let target_a = point.sqr_distance(target.a);
-        let target_b = point.sqr_distance(target.b);
-        let other_a = point.sqr_distance(other.a);
-        let other_b = point.sqr_distance(other.b);
-        let target_gap = target_a.min(target_b);
-        let other_gap = other_a.min(other_b);
+        let (target_end, target_gap) = self.target.nearer_end(point);
+        let (other_end, other_gap) = self.other.nearer_end(point);
         if target_gap.min(other_gap) > near {
             return CrossResult {
                 point,
@@ -170,20 +165,14 @@ impl Pair<'_> {
             };
         }
         if target_gap <= other_gap {
-            let end = if target_a < target_b {
-                target.a
-            } else {
-                target.b
-            };
             CrossResult {
-                point: end,
+                point: target_end,
                 cross_type: CrossType::TargetEnd,
                 is_round: true,
             }
         } else {
-            let end = if other_a < other_b { other.a } else { other.b };
             CrossResult {
-                point: end,
+                point: other_end,
                 cross_type: CrossType::OtherEnd,
                 is_round: true,
             }

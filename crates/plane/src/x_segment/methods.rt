@@ -2,6 +2,7 @@
 ghost use Rattle.std.specs.Prelude.{◌≡◌};
 ghost use Rattle.plane.specs.Edges.{smaller?, equal?, between?};
 ghost use Rattle.plane.specs.PointOf.{point_of};
+ghost use Rattle.plane.specs.Rounding.{gap, nearer};
 ghost use Rattle.plane.specs.Models.{MadeEdge, edge_of};
 
 use crate::fault::Fault;
@@ -40,5 +41,15 @@ impl XSegment {
         ensures { result ≡ between? (edge_of self.now) (point_of p) }
     {
         self.a.is_before(p) && p.is_before(self.b)
+    }
+
+    /// The end that is nearer to a point, of two as near the second, and its squared distance.
+    pub(crate) fn nearer_end(&self, p: IntPoint) -> (IntPoint, u64)
+        ensures end { point_of result.0 ≡ nearer (edge_of self.now) (point_of p) }
+        ensures far { result.1 ≡ gap (edge_of self.now) (point_of p) }
+    {
+        let a = p.sqr_distance(self.a);
+        let b = p.sqr_distance(self.b);
+        if a < b { (self.a, a) } else { (self.b, b) }
     }
 }
