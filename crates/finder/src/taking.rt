@@ -1,24 +1,16 @@
 //! Taking pairs from a finder until none is left.
-ghost use Rattle.finder.specs.Finders.{Pair};
 ghost use Rattle.finder.specs.Taking.{Took, Visited};
 
 use crate::finding::Finder;
 
-/// What is done with one pair after another.
-pub trait PairVisitor {
-    ghost visits: { Self → Pair → Self → Type 0 };
-
-    fn visit(&mut self, i: usize, j: usize)
-        ensures { visits self.old (i, j) self.new };
-}
-
-/// Takes all pairs, hands each to the visitor, and tells how many there were.
-pub fn take_all<F: Finder, V: PairVisitor>(finder: &mut F, visitor: &mut V) -> usize
-    ensures { Visited F.Finder.walks (F.Finder.meaning finder.old) (F.Finder.meaning finder.new) result V.PairVisitor.visits visitor.old visitor.new }
+/// Takes all pairs, calls `visit` at each in its turn, and tells how many there were.
+pub fn take_all<F: Finder, V: FnMut(usize, usize)>(finder: &mut F, mut visit: V) -> usize
+    requires { V.IsAlwaysCallable visit }
+    ensures { (last : V) × Visited F.Finder.walks (F.Finder.meaning finder.old) (F.Finder.meaning finder.new) result (λ v p w. V.step v p.0 p.1 tt w) visit last }
 {
     let mut taken: usize = 0;
     while let Some((i, j)) = finder.next() {
-        visitor.visit(i, j);
+        visit(i, j);
         taken = taken.saturating_add(1);
     }
     taken
@@ -28,15 +20,5 @@ pub fn take_all<F: Finder, V: PairVisitor>(finder: &mut F, visitor: &mut V) -> u
 pub fn count_pairs<F: Finder>(finder: &mut F) -> usize
     ensures { Took F.Finder.walks (F.Finder.meaning finder.old) (F.Finder.meaning finder.new) result }
 {
-    take_all(finder, &mut Idle)
-}
-
-/// Does nothing with a pair.
-#[derive(Drop)]
-struct Idle;
-
-impl PairVisitor for Idle {
-    ghost visits = { λ _ _ _. Unit {0} };
-
-    fn visit(&mut self, _i: usize, _j: usize) {}
+    take_all(finder, |_i, _j| {})
 }

@@ -1,10 +1,17 @@
-use Rattle.std.proofs.Common.{[], ◌∷◌, ◌++◌, refl, ◌∙◌}
+use Rattle.std.proofs.Common.{[], ◌∷◌, ◌++◌, refl, ◌∙◌, of_calls}
+use Rattle.std.proofs.lemmas.Fn.{FoldsTo-push}
 use Rattle.finder.specs.Finders.{Pair}
-use Rattle.finder.proofs.Walking.{falls, came_none, came_more, came_all, number_more, visits_more}
+use Rattle.finder.proofs.Walking.{falls, came_none, came_more, came_all, number_more}
 use Rattle.finder.proofs.taking.take_all.Goals as goal
 
 pub loop-i-init : goal.loop-i-init
-loop-i-init g c = ([], came_none g.F.Finder.walks (g.F.Finder.meaning c.args.finder.now), refl, refl)
+loop-i-init g c = record {
+  callable = c.requires;
+  done = [];
+  came = came_none g.F.Finder.walks (g.F.Finder.meaning c.args.finder.now);
+  visited = refl;
+  counted = refl;
+}
 
 pub loop-i-smaller : goal.loop-i-smaller
 loop-i-smaller g c =
@@ -15,16 +22,18 @@ pub loop-i-preserved : goal.loop-i-preserved
 loop-i-preserved g c =
     let F = g.F.Finder in
     let v = c.loop-i.invariant in
-    let p : Pair = (c.in-Some.i, c.in-Some.j) in (
-      v.0 ++ (p ∷ []),
-      came_more F.walks (F.meaning c.loop-i.finder) (F.meaning c.next.new.self) c.next.result c.next.ensures (F.meaning c.args.finder.now) v.0 v.1 p c.in-Some.is,
-      visits_more g.V.PairVisitor.visits c.args.visitor.now c.loop-i.visitor c.visit.new.self v.0 p v.2 c.visit.ensures,
-      c.saturating_add-taken.ensures ∙ number_more v.0 p c.loop-i.taken v.3,
-    )
+    let p : Pair = (c.in-Some.i, c.in-Some.j) in
+    record {
+      callable = search of_calls;
+      done = v.done ++ (p ∷ []);
+      came = came_more F.walks (F.meaning c.loop-i.finder) (F.meaning c.next.new.self) c.next.result c.next.ensures (F.meaning c.args.finder.now) v.done v.came p c.in-Some.is;
+      visited = FoldsTo-push _ c.args.visit v.done c.loop-i.visit p c.visit.new.self v.visited c.visit.ensures;
+      counted = c.saturating_add-taken.ensures ∙ number_more v.done p c.loop-i.taken v.counted;
+    }
 
 pub returns : goal.returns
 returns g c =
     let F = g.F.Finder in
     let v = c.loop-i.invariant in
-    let all = came_all F.walks (F.meaning c.loop-i.finder) (F.meaning c.next.new.self) c.next.result c.next.ensures (F.meaning c.args.finder.now) v.0 v.1 c.in_default.is in
-    record { took = record { pairs = v.0; allowed = all.0; number = v.3; leaves = all.1 }; visited = v.2 }
+    let all = came_all F.walks (F.meaning c.loop-i.finder) (F.meaning c.next.new.self) c.next.result c.next.ensures (F.meaning c.args.finder.now) v.done v.came c.in_default.is in
+    (c.loop-i.visit, record { took = record { pairs = v.done; allowed = all.0; number = v.counted; leaves = all.1 }; visited = v.visited })
