@@ -1,4 +1,4 @@
-//! What all finders share: the number announced, and the checks of `show` before that of the need.
+//! What all finders share: the number announced, and the checks of an edge shown.
 ghost use Rattle.std.specs.Prelude.{◌≡◌, ◌≤◌};
 ghost use Rattle.plane.specs.Points.{before?};
 ghost use Rattle.plane.specs.Models.{plain_point, MadePoint};
@@ -6,6 +6,7 @@ ghost use Rattle.finder.specs.Finders.{box_of, counted};
 ghost use Rattle.finder.specs.Checks.{Checked};
 
 use crate::int_rect::IntRect;
+use crate::intake::Intake;
 use plane::fault::Fault;
 use plane::int_point::IntPoint;
 use plane::plain_point::PlainPoint;
@@ -23,7 +24,7 @@ pub fn announced_edges(number: usize) -> usize
 }
 
 /// Whether one point comes before another: by x, then by y.
-fn is_before(p: PlainPoint, q: PlainPoint) -> bool
+pub(crate) fn is_before(p: PlainPoint, q: PlainPoint) -> bool
     ensures { result ≡ before? (plain_point p) (plain_point q) }
 {
     p.x < q.x || (p.x <= q.x && p.y < q.y)
@@ -47,23 +48,10 @@ pub fn checked(
 ) -> Result<XSegment, Fault>
     ensures { Checked walking announced shown (box_of extent) (record { a = plain_point a; b = plain_point b }) result }
 {
-    if walking {
-        return Err(Fault::Walking);
+    Intake {
+        extent,
+        announced,
+        shown,
     }
-    if announced <= shown {
-        return Err(Fault::AnnouncedReached);
-    }
-    if !is_before(a, b) {
-        return Err(Fault::EndsEqual);
-    }
-    let first = in_range(a)?;
-    let second = in_range(b)?;
-    let edge = XSegment {
-        a: first,
-        b: second,
-    };
-    if !extent.contains_edge(edge) {
-        return Err(Fault::EdgeOutsideBox);
-    }
-    Ok(edge)
+    .check(walking, a, b)
 }

@@ -7,6 +7,7 @@ pub mod edge_record;
 pub mod filling;
 pub mod finding;
 pub mod int_rect;
+pub mod intake;
 pub mod plain_edge;
 pub mod segment_record;
 pub mod taking;

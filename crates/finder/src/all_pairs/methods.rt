@@ -1,12 +1,12 @@
 //! The calls of the all-pairs finder.
 ghost use Rattle.std.specs.Prelude.{◌≡◌, ◌<◌, length};
-ghost use Rattle.finder.specs.Finders.{MayCome, rest, unstarted};
+ghost use Rattle.finder.specs.Finders.{rest, unstarted};
 ghost use Rattle.finder.specs.Pairs.{pairs_meaning, pairs_need, pairs_walks, pairs_from};
 
 use crate::all_pairs::AllPairs;
-use crate::checking::{announced_edges, checked};
 use crate::finding::Finder;
 use crate::int_rect::IntRect;
+use crate::intake::Intake;
 use crate::plain_edge::PlainEdge;
 use plane::fault::Fault;
 use plane::plain_point::PlainPoint;
@@ -18,24 +18,8 @@ impl<'a> AllPairs<'a> {
     {
         AllPairs {
             table,
-            extent: IntRect::ZERO,
-            announced: 0,
-            used: 0,
-            walking: false,
-            i: 0,
-            j: 1,
-        }
-    }
-
-    /// Where the pairs to come begin: a walk begins with (0, 1).
-    fn ahead(&self) -> (usize, usize)
-        ensures apart { result.0 < result.1 }
-        ensures comes { MayCome pairs_walks (pairs_meaning self.now) (pairs_from self.now.used result.0 result.1) }
-    {
-        if self.walking {
-            (self.i, self.j)
-        } else {
-            (0, 1)
+            intake: Intake::new(IntRect::ZERO, 0),
+            ahead: None,
         }
     }
 }
@@ -48,29 +32,30 @@ impl<'a> Finder for AllPairs<'a> {
     ghost walks = { pairs_walks };
 
     fn start(&mut self, extent: IntRect, number: usize) {
-        self.used = 0;
-        self.extent = extent;
-        self.announced = announced_edges(number);
-        self.walking = false;
+        self.intake = Intake::new(extent, number);
+        self.ahead = None;
     }
 
     fn show(&mut self, a: PlainPoint, b: PlainPoint) -> Result<(), Fault> {
-        checked(self.walking, self.announced, self.used, self.extent, a, b)?;
-        if self.table.len() <= self.used {
-            return Err(Fault::FinderFull(self.used));
+        self.intake.check(self.ahead.is_some(), a, b)?;
+        let place = self.intake.shown;
+        if self.table.len() <= place {
+            return Err(Fault::FinderFull(place));
         }
-        self.table[self.used] = PlainEdge { a, b };
-        self.used += 1;
+        self.table[place] = PlainEdge { a, b };
+        self.intake.shown += 1;
         Ok(())
     }
 
+    /// A walk begins with (0, 1).
     fn next(&mut self) -> Option<(usize, usize)> {
-        let (i, j) = self.ahead();
-        let (next_i, next_j) = following(i, j, self.used);
-        self.walking = true;
-        self.i = next_i;
-        self.j = next_j;
-        if j < self.used { Some((i, j)) } else { None }
+        let (i, j) = self.ahead.unwrap_or((0, 1));
+        self.ahead = Some(following(i, j, self.intake.shown));
+        if j < self.intake.shown {
+            Some((i, j))
+        } else {
+            None
+        }
     }
 }
 

@@ -1,0 +1,59 @@
+//! What a finder is told before it walks, and the checks of `show` before that of the need.
+ghost use Rattle.std.specs.Prelude.{◌≡◌};
+ghost use Rattle.plane.specs.Models.{plain_point};
+ghost use Rattle.finder.specs.Finders.{box_of, counted};
+ghost use Rattle.finder.specs.Checks.{Checked};
+
+use crate::checking::{announced_edges, in_range, is_before};
+use crate::int_rect::IntRect;
+use plane::fault::Fault;
+use plane::plain_point::PlainPoint;
+use plane::x_segment::XSegment;
+
+/// A box, the number of edges announced, and how many were shown so far.
+#[derive(Clone, Copy)]
+pub struct Intake {
+    pub extent: IntRect,
+    pub announced: usize,
+    pub shown: usize,
+}
+
+impl Intake {
+    /// Takes a box and the number of edges to be shown; none was shown yet.
+    pub fn new(extent: IntRect, number: usize) -> Intake
+        ensures extent { result.extent ≡ extent }
+        ensures announced { result.announced ≡ counted number }
+        ensures shown { result.shown ≡ 0 }
+    {
+        Intake {
+            extent,
+            announced: announced_edges(number),
+            shown: 0,
+        }
+    }
+
+    /// The edge from `a` to `b`, or its refusal by the first check that it fails.
+    pub fn check(self, walking: bool, a: PlainPoint, b: PlainPoint) -> Result<XSegment, Fault>
+        ensures { Checked walking self.announced self.shown (box_of self.extent) (record { a = plain_point a; b = plain_point b }) result }
+    {
+        if walking {
+            return Err(Fault::Walking);
+        }
+        if self.announced <= self.shown {
+            return Err(Fault::AnnouncedReached);
+        }
+        if !is_before(a, b) {
+            return Err(Fault::EndsEqual);
+        }
+        let first = in_range(a)?;
+        let second = in_range(b)?;
+        let edge = XSegment {
+            a: first,
+            b: second,
+        };
+        if !self.extent.contains_edge(edge) {
+            return Err(Fault::EdgeOutsideBox);
+        }
+        Ok(edge)
+    }
+}
