@@ -1,5 +1,5 @@
 -- The refusal of an edge, check by check.
-use Rattle.std.proofs.Common.{◌≡◌, ℕ, ◌<◌, ◌≤◌, Bool, true, false, cond, not, ◌&&◌, ltb, leb, [], ◌∷◌, ◌++◌, length, nat_abs, Some, None, Option, sym, refl, ◌∙◌, subst, ap₂, arith}
+use Rattle.std.proofs.Common.{◌≡◌, ℕ, ◌<◌, ◌≤◌, Bool, true, false, cond, not, ◌&&◌, ltb, leb, [], ◌∷◌, ◌++◌, length, nat_abs, Some, None, Option, sym, refl, ◌∙◌, subst, ap₂}
 use Rattle.std.proofs.lemmas.Bool.{le-leb, leb-true, leb-false, lt-leb, lt-ltb, le-ltb, cond-true, cond-false, and_from, and_parts, not-false, not_from_true, not_from_false}
 use Rattle.plane.specs.Points.{Point, Ranged, before?}
 use Rattle.plane.specs.PointOf.{point_of}
@@ -32,9 +32,6 @@ in_box_ends box p q r s b e f h = ap₂ (λ x y. in_box? box x && in_box? box y)
 
 -- ---- each check refuses where those before it let the edge pass
 module _ (walking : Bool) (announced shown : ℕ) (box : Box) (e : Edge) where
-  pub early_walking : walking ≡ true → early_refusal walking announced shown box e ≡ Some Walking
-  early_walking w = cond-true walking _ _ w
-
   module _ (w : walking ≡ false) where
     pub early_reached : announced ≤ shown → early_refusal walking announced shown box e ≡ Some AnnouncedReached
     early_reached h = cond-false walking _ _ w ∙ cond-true (leb announced shown) _ _ (le-leb _ _ h)
@@ -45,9 +42,6 @@ module _ (walking : Bool) (announced shown : ℕ) (box : Box) (e : Edge) where
           (cond (not (in_range? e.a && in_range? e.b)) (Some CoordinateOutside)
           (cond (not (in_box? box e.a && in_box? box e.b)) (Some EdgeOutsideBox) None))
       on_turn = cond-false walking _ _ w ∙ cond-false (leb announced shown) _ _ (lt-leb _ _ h)
-
-      pub early_unordered : before? e.a e.b ≡ false → early_refusal walking announced shown box e ≡ Some EndsEqual
-      early_unordered n = on_turn ∙ cond-true (not (before? e.a e.b)) _ _ (not_from_false _ n)
 
       module _ (o : before? e.a e.b ≡ true) where
         in_order : early_refusal walking announced shown box e ≡
@@ -73,12 +67,6 @@ module _ (walking : Bool) (announced shown : ℕ) (box : Box) (e : Edge) where
 by_checks : (w r o g x : Bool) → Option Fault → Option Fault
 by_checks w r o g x last = cond w (Some Walking) (cond r (Some AnnouncedReached) (cond o (Some EndsEqual) (cond g (Some CoordinateOutside) (cond x (Some EdgeOutsideBox) last))))
 
-none_some : {f : Fault} → None ≡ Some f → ⊥
-none_some e = let z : ◌≡◌ {A = ℕ} 0 1 = cc e in omega arith
-
-some_none : {f : Fault} → Some f ≡ None → ⊥
-some_none e = let z : ◌≡◌ {A = ℕ} 0 1 = cc e in omega arith
-
 by_early : (w r o g x : Bool) (last : Option Fault) (f : Fault) → by_checks w r o g x None ≡ Some f → by_checks w r o g x last ≡ Some f
 unfolding by_checks
 by_early true r o g x last f e = e
@@ -86,24 +74,24 @@ by_early false true o g x last f e = e
 by_early false false true g x last f e = e
 by_early false false false true x last f e = e
 by_early false false false false true last f e = e
-by_early false false false false false last f e = absurd (none_some e)
+by_early false false false false false last f e = cc
 
 by_last : (w r o g x : Bool) (last : Option Fault) → by_checks w r o g x None ≡ None → by_checks w r o g x last ≡ last
 unfolding by_checks
-by_last true r o g x last e = absurd (some_none e)
-by_last false true o g x last e = absurd (some_none e)
-by_last false false true g x last e = absurd (some_none e)
-by_last false false false true x last e = absurd (some_none e)
-by_last false false false false true last e = absurd (some_none e)
+by_last true r o g x last e = cc
+by_last false true o g x last e = cc
+by_last false false true g x last e = cc
+by_last false false false true x last e = cc
+by_last false false false false true last e = cc
 by_last false false false false false last e = refl
 
 none_passed : (w r o g x : Bool) → by_checks w r o g x None ≡ None → (w ≡ false) × (r ≡ false) × (o ≡ false) × (g ≡ false) × (x ≡ false)
 unfolding by_checks
-none_passed true r o g x e = absurd (some_none e)
-none_passed false true o g x e = absurd (some_none e)
-none_passed false false true g x e = absurd (some_none e)
-none_passed false false false true x e = absurd (some_none e)
-none_passed false false false false true e = absurd (some_none e)
+none_passed true r o g x e = cc
+none_passed false true o g x e = cc
+none_passed false false true g x e = cc
+none_passed false false false true x e = cc
+none_passed false false false false true e = cc
 none_passed false false false false false e = (refl, refl, refl, refl, refl)
 
 -- what an edge is that no early check refuses

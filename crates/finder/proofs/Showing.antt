@@ -13,12 +13,6 @@ use Rattle.finder.specs.Boxes.{LeastBox}
 use Rattle.finder.specs.Filling.{filling, refusal_at, AcceptedBelow, Filled, Suitable, ByNeed}
 use Rattle.finder.proofs.Refusals.{ranged_true, early_none, refusal_full, refusal_none}
 
-ok_err : {f : Fault} → ◌≡◌ {A = Result (Unit {0}) Fault} (Ok tt) (Err f) → ⊥
-ok_err e = let z : ◌≡◌ {A = ℕ} 0 1 = cc e in omega arith
-
-none_some : {f : Fault} → None ≡ Some f → ⊥
-none_some e = let z : ◌≡◌ {A = ℕ} 0 1 = cc e in omega arith
-
 pub at_in : (es : List Edge) (k : ℕ) → k < length es → In (edge_at es k) es
 at_in [] k h = absurd (omega arith)
 at_in (e ∷ es) zero h = inl refl
@@ -53,14 +47,14 @@ module _ (need : Needs) (cap : ℕ) (b : Box) (es : List Edge) where
           leaves ∙ ap (λ x. show_after x e m) o ∙ ap₂ with_shown same is ∙ ap (λ xs. filling b (length es) xs cap) (sym (take_more es i blank_edge h)),
           below_more (λ j. refusal_at need cap b es j ≡ None) i below (sym refusal_here ∙ o),
         )
-        go (Some f) o = absurd (ok_err (sym ok ∙ answers ∙ ap show_answer o))
+        go (Some f) o = let e = sym ok ∙ answers ∙ ap show_answer o in absurd (cc e)
 
     -- the edge was refused
     pub shown_err : (f : Fault) → r ≡ Err f → Filled need cap b es m' (Err f)
     shown_err f err = go (refusal need m e) refl
       where
         go : (o : Option Fault) → refusal need m e ≡ o → Filled need cap b es m' (Err f)
-        go None o = absurd (ok_err (sym (ap show_answer o) ∙ sym answers ∙ err))
+        go None o = let e = sym (ap show_answer o) ∙ sym answers ∙ err in absurd (cc e)
         go (Some g) o =
             let bad = sym err ∙ answers ∙ ap show_answer o in
             let eq : f ≡ g = cc bad in
@@ -91,7 +85,7 @@ module _ (need : Needs) (cap : ℕ) (b : Box) (es : List Edge) where
       where
         go : (cap < need b (length es) (take (k + 1) es)) ⊎ (need b (length es) (take (k + 1) es) ≤ cap) → need b (length es) (take (k + 1) es) ≤ cap
         go (inr l) = l
-        go (inl l) = absurd (none_some (sym none ∙ refusal_full need (part k) (edge_at es k) (none_early k h) (subst (λ n. cap < n) (needs_at k h) l)))
+        go (inl l) = let e = sym none ∙ refusal_full need (part k) (edge_at es k) (none_early k h) (subst (λ n. cap < n) (needs_at k h) l) in absurd (cc e)
 
     full_at : (k : ℕ) (f : Fault) → k < length es → refusal_at need cap b es k ≡ Some f → (cap < need b (length es) (take (k + 1) es)) × (f ≡ FinderFull k)
     unfolding part
@@ -103,7 +97,7 @@ module _ (need : Needs) (cap : ℕ) (b : Box) (es : List Edge) where
             let is = sym some ∙ refusal_full need (part k) (edge_at es k) (none_early k h) (subst (λ n. cap < n) (needs_at k h) l) in
             let eq : f ≡ FinderFull (length (take k es)) = cc is in
             (l, eq ∙ ap FinderFull size)
-        go (inr l) = absurd (none_some (sym (refusal_none need (part k) (edge_at es k) (none_early k h) (subst (λ n. n ≤ cap) (needs_at k h) l)) ∙ some))
+        go (inr l) = let e = sym (refusal_none need (part k) (edge_at es k) (none_early k h) (subst (λ n. n ≤ cap) (needs_at k h) l)) ∙ some in absurd (cc e)
 
     pub by_need : (m : Meaning) (r : Result (Unit {0}) Fault) → Filled need cap b es m r → ByNeed need cap b es r
     by_need m (Ok u) h = λ j l. fits_at j l (h.1 j l)

@@ -14,9 +14,6 @@ abbrev pub Came : Walks → Meaning → Meaning → List Pair → Type 0
 Came walks before m done =
     ((m ≡ before) × (done ≡ [])) ⊎ (MayCome walks before (done ++ m.coming) × (m ≡ walking_on m.coming before))
 
-none_some : {p : Pair} → None ≡ Some p → ⊥
-none_some e = let z : ◌≡◌ {A = ℕ} 0 1 = cc e in omega arith
-
 pub came_none : (walks : Walks) (m : Meaning) → Came walks m m []
 came_none walks m = inl (refl, refl)
 
@@ -40,7 +37,7 @@ module _ (walks : Walks) (m m' : Meaning) (r : Option Pair) (n : Next walks m m'
   given p is = go n.pairs n.allowed n.answers n.leaves
     where
       go : (ps : List Pair) → MayCome walks m ps → r ≡ first ps → m' ≡ walking_on (rest ps) m → Given p
-      go [] allowed answers leaves = absurd (none_some (sym answers ∙ is))
+      go [] allowed answers leaves = let e = sym answers ∙ is in absurd (cc e)
       go (q ∷ qs) allowed answers leaves =
           let both = sym answers ∙ is in
           let same : q ≡ p = cc both in
@@ -56,7 +53,7 @@ module _ (walks : Walks) (m m' : Meaning) (r : Option Pair) (n : Next walks m m'
     where
       go : (ps : List Pair) → MayCome walks m ps → r ≡ first ps → m' ≡ walking_on (rest ps) m → Over
       go [] allowed answers leaves = record { allowed = allowed; leaves = leaves }
-      go (q ∷ qs) allowed answers leaves = absurd (none_some (sym is ∙ answers))
+      go (q ∷ qs) allowed answers leaves = let e = sym is ∙ answers in absurd (cc e)
 
   -- the measure falls
   pub falls : (p : Pair) → r ≡ Some p → pairs_left m' < pairs_left m

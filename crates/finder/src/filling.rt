@@ -18,14 +18,13 @@ pub fn extent_of<E: EdgeRecord>(edges: &[E]) -> IntRect
     ensures value { box_of result ≡ edges_box (map E.EdgeRecord.edge edges.now) }
     ensures least { LeastBox (map E.EdgeRecord.edge edges.now) (box_of result) }
 {
-    if edges.len() == 0 {
+    let Some(first) = edges.first() else {
         return IntRect::ZERO;
-    }
-    let mut extent = IntRect::at(edges[0].first_end());
-    for i in 0..edges.len() {
-        extent = widened(extent, edges[i]);
-    }
-    extent
+    };
+    let around = IntRect::at(first.first_end());
+    edges
+        .iter()
+        .fold(around, |extent, edge| widened(extent, *edge))
 }
 
 /// The least box that holds this one and an edge.
@@ -47,8 +46,8 @@ pub fn fill<E: EdgeRecord, F: Finder>(
     ensures by_need { Suitable (box_of extent) (map E.EdgeRecord.edge edges.now) → ByNeed F.Finder.need (F.Finder.meaning finder.old).capacity (box_of extent) (map E.EdgeRecord.edge edges.now) result }
 {
     finder.start(extent, edges.len());
-    for i in 0..edges.len() {
-        show_edge(edges[i], finder)?;
+    for edge in edges {
+        show_edge(*edge, finder)?;
     }
     Ok(())
 }

@@ -40,15 +40,11 @@ impl IntRect {
     pub fn with_point(self, p: IntPoint) -> IntRect
         ensures { box_of result ≡ with_point (box_of self) (point_of p) }
     {
-        let min_x = self.min_x.min(p.x);
-        let max_x = self.max_x.max(p.x);
-        let min_y = self.min_y.min(p.y);
-        let max_y = self.max_y.max(p.y);
         IntRect {
-            min_x,
-            max_x,
-            min_y,
-            max_y,
+            min_x: self.min_x.min(p.x),
+            max_x: self.max_x.max(p.x),
+            min_y: self.min_y.min(p.y),
+            max_y: self.max_y.max(p.y),
         }
     }
 

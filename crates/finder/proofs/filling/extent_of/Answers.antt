@@ -1,43 +1,27 @@
-use Rattle.std.proofs.Common.{◌<◌, map, length, fold, sym, ap, ◌∙◌, ap₂, arith}
-use Rattle.std.proofs.lemmas.List.{length-map, take_all}
-use Rattle.std.proofs.lemmas.List.Sums.{fold_more}
+use Rattle.std.proofs.Common.{◌≡◌, List, map, fold, Bor, Iter, sym, ap, ◌∙◌, subst, arith, rules, of_calls}
+use Rattle.std.specs.Iterator.{AlwaysYields}
+use Rattle.std.proofs.lemmas.Fn.{fronts, fold_over, slice_gives}
+use Rattle.std.proofs.lemmas.List.{length-map}
 use Rattle.plane.specs.Edges.{Edge}
-use Rattle.finder.specs.Finders.{edge_at, blank_edge}
+use Rattle.finder.specs.Finders.{edge_at, box_of}
 use Rattle.finder.specs.Boxes.{point_box, with_edge}
-use Rattle.finder.proofs.Boxes.{box_none, box_all, box_least}
+use Rattle.finder.proofs.Boxes.{box_all, box_least, grown_more}
 use Rattle.finder.proofs.Showing.{edge_at_map}
 use Rattle.finder.proofs.filling.extent_of.Goals as goal
 
-pub returns-then-edges-eq0 : goal.returns-then-edges-eq0
-returns-then-edges-eq0 g c =
-    let edge = g.E.EdgeRecord.edge in
-    let xs = c.args.edges.now in
-    let none = box_none (map edge xs) (length-map xs edge ∙ c.if-edges-eq0.true) in
-    record { value = none; least = box_least (map edge xs) _ none }
-
-pub loop-i-init : goal.loop-i-init
-loop-i-init g c =
-    let edge = g.E.EdgeRecord.edge in
-    let xs = c.args.edges.now in
-    let some : 0 < length xs = omega arith in
-    c.at-extent.ensures ∙ ap point_box (c.first_end.ensures ∙ ap (λ (e : Edge). e.a) (edge_at_map edge xs 0 c.index-edges-0.result some c.index-edges-0.is))
-
-pub loop-i-preserved : goal.loop-i-preserved
-loop-i-preserved g c =
-    let edge = g.E.EdgeRecord.edge in
-    let xs = c.args.edges.now in
-    let es = map edge xs in
-    let size = length-map xs edge in
-    let i = c.loop-i.i in
-    c.widened-extent.ensures
-    ∙ ap₂ with_edge c.loop-i.invariant (edge_at_map edge xs i c.index-edges-i.result c.loop-i-test.true c.index-edges-i.is)
-    ∙ sym (fold_more with_edge (point_box (edge_at es 0).a) es i blank_edge (omega (arith, size, c.loop-i-test.true)))
+-- the items of a slice's iterator
+yields : {X : Type 0} (s : Iter X) (xs : List X) → s.rest.now ≡ xs → AlwaysYields fronts (λ y. y.now) s xs
+yields s xs e = subst (λ l. AlwaysYields fronts (λ y. y.now) s l) e (slice_gives s)
 
 pub returns : goal.returns
 returns g c =
     let edge = g.E.EdgeRecord.edge in
     let xs = c.args.edges.now in
     let es = map edge xs in
-    let size = length-map xs edge in
-    let all = c.loop-i.invariant ∙ ap (fold with_edge (point_box (edge_at es 0).a)) (take_all c.loop-i.i es (omega (arith, size, c.loop-i-test.false))) ∙ box_all es (omega (arith, size, c.if-edges-eq0.false)) in
+    let item = c.in-Some.ensures.item in
+    let begins = c.at-around.ensures ∙ ap point_box (c.first_end.ensures ∙ ap (λ (e : Edge). e.a) (edge_at_map edge xs 0 c.in-Some.first.now item.3.0 item.1)) in
+    let reckoned = fold_over fronts (λ (y : Bor g.row.E.Denot). y.now) _ (λ ys a. box_of a ≡ fold with_edge (point_box (edge_at es 0).a) (map edge ys)) _
+    (λ ys a x b f' h k. let one : box_of b ≡ with_edge (box_of a) (edge x.now) = search (rules, of_calls) in (one ∙ ap (λ z. with_edge z (edge x.now)) h ∙ sym (grown_more edge _ ys x.now), search (rules, of_calls)))
+    c.iter.result xs c.at-around.result c.fold.result (yields c.iter.result xs c.iter.ensures.rest) begins c.fold.ensures.ran in
+    let all = reckoned ∙ box_all es (let n = length-map xs edge in let some = item.3.0 in omega arith) in
     record { value = all; least = box_least es _ all }

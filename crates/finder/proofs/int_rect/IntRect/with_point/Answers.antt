@@ -8,5 +8,5 @@ use Rattle.finder.proofs.int_rect.IntRect.with_point.Goals as goal
 pub returns : goal.returns
 unfolding with_point
 returns c =
-    box_ext (omega (arith, ints, clamps, c.min-min_x.ensures.value)) (omega (arith, ints, clamps, c.max-max_x.ensures.value))
-    (omega (arith, ints, clamps, c.min-min_y.ensures.value)) (omega (arith, ints, clamps, c.max-max_y.ensures.value))
+    box_ext (omega (arith, ints, clamps, c.min.ensures.value)) (omega (arith, ints, clamps, c.max.ensures.value))
+    (omega (arith, ints, clamps, c.min-2.ensures.value)) (omega (arith, ints, clamps, c.max-2.ensures.value))

@@ -6,16 +6,11 @@ use Rattle.plane.specs.Models.{plain_point}
 use Rattle.plane.specs.declared.plain_point.PlainPoint.{PlainPoint}
 use Rattle.plane.proofs.Points.{edge_ext}
 use Rattle.finder.specs.Finders.{box_of}
-use Rattle.finder.proofs.Refusals.{ranged_false, ranged_point, in_box_ends, early_reached, early_ranged, early_outside, early_none}
+use Rattle.finder.proofs.Refusals.{ranged_false, ranged_point, in_box_ends, early_ranged, early_outside, early_none}
 use Rattle.finder.proofs.intake.Intake.check.Goals as goal
 
 abbrev edge : PlainPoint → PlainPoint → Edge
 edge a b = record { a = plain_point a; b = plain_point b }
-
-pub returns-then-self : goal.returns-then-self
-returns-then-self c =
-    let x = c.args in
-    early_reached x.walking x.self.announced x.self.shown (box_of x.self.extent) (edge x.a x.b) c.if-walking.false c.if-self.true
 
 pub returns-in_err-first : goal.returns-in_err-first
 returns-in_err-first c =
