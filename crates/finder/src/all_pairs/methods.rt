@@ -60,6 +60,7 @@ impl<'a> Finder for AllPairs<'a> {
 }
 
 /// Where the pairs behind (i, j) begin, among n edges.
+#[tactic(auto, using(crate::proofs::Rows::rest_past, crate::proofs::Rows::rest_more, crate::proofs::Rows::rest_last))]
 fn following(i: usize, j: usize, n: usize) -> (usize, usize)
     requires { i < j }
     ensures apart { result.0 < result.1 }

@@ -3,15 +3,8 @@ use Rattle.std.proofs.lemmas.List.{length-map, take_all}
 use Rattle.std.proofs.lemmas.Result.{err_from_is_err_and}
 use Rattle.finder.specs.Finders.{Meaning, box_of}
 use Rattle.finder.specs.Filling.{filling, Filled}
-use Rattle.finder.proofs.Showing.{edge_at_map, started_filling, filled_at, shown_ok, shown_err, by_need}
+use Rattle.finder.proofs.Showing.{edge_at_map, filled_at, shown_ok, shown_err, by_need}
 use Rattle.finder.proofs.filling.fill.Goals as goal
-
-pub loop-edge-init : goal.loop-edge-init
-loop-edge-init g c =
-    let F = g.F.Finder in (
-      started_filling (F.meaning c.start.new.self) (F.meaning c.args.finder.now) (box_of c.args.extent) _ _ c.start.ensures (length-map c.args.edges.now g.E.EdgeRecord.edge),
-      λ j h. absurd (omega (arith, h)),
-    )
 
 pub loop-edge-preserved : goal.loop-edge-preserved
 loop-edge-preserved g c =

@@ -1,22 +1,8 @@
-use Rattle.std.proofs.Common.{[], ◌∷◌, ◌++◌, refl, ◌∙◌, of_calls}
+use Rattle.std.proofs.Common.{[], ◌∷◌, ◌++◌, ◌∙◌, of_calls}
 use Rattle.std.proofs.lemmas.Fn.{FoldsTo-push}
 use Rattle.finder.specs.Finders.{Pair}
-use Rattle.finder.proofs.Walking.{falls, came_none, came_more, came_all, number_more}
+use Rattle.finder.proofs.Walking.{came_more, came_all, number_more}
 use Rattle.finder.proofs.taking.take_all.Goals as goal
-
-pub loop-i-init : goal.loop-i-init
-loop-i-init g c = record {
-  callable = c.requires;
-  done = [];
-  came = came_none g.F.Finder.walks (g.F.Finder.meaning c.args.finder.now);
-  visited = refl;
-  counted = refl;
-}
-
-pub loop-i-smaller : goal.loop-i-smaller
-loop-i-smaller g c =
-    let F = g.F.Finder in
-    falls F.walks (F.meaning c.loop-i.finder) (F.meaning c.next.new.self) c.next.result c.next.ensures (c.in-Some.i, c.in-Some.j) c.in-Some.is
 
 pub loop-i-preserved : goal.loop-i-preserved
 loop-i-preserved g c =
