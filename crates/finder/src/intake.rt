@@ -1,5 +1,5 @@
 //! What a finder is told before it walks, and the checks of `show` before that of the need.
-ghost use Rattle.std.specs.Prelude.{◌≡◌};
+ghost use Rattle.std.specs.Prelude.{◌≡◌, ◌≤◌};
 ghost use Rattle.plane.specs.Models.{plain_point};
 ghost use Rattle.finder.specs.Finders.{box_of, counted};
 ghost use Rattle.finder.specs.Checks.{Checked};
@@ -23,6 +23,7 @@ impl Intake {
     pub fn new(extent: IntRect, number: usize) -> Intake
         ensures extent { result.extent ≡ extent }
         ensures announced { result.announced ≡ counted number }
+        ensures few { result.announced ≤ 4096 }
         ensures shown { result.shown ≡ 0 }
     {
         Intake {
