@@ -11,7 +11,6 @@ pub mod Links
 pub mod Cursors
 pub mod Laid
 pub mod Steps
-pub mod Facts
 pub mod Placing
 pub mod Sounds
 pub mod Rooms

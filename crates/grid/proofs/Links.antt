@@ -1,10 +1,10 @@
 -- Columns that are linked from the end of the table on.
-use Rattle.std.proofs.Common.{◌≡◌, ℕ, zero, suc, ◌+◌, ◌-◌, ◌<◌, ◌≤◌, eqb, ◌⊎◌, List, [], ◌∷◌, length, get_or, drop, set, replicate, sym, refl, ap, ◌∙◌, subst, inl, inr, zero-add, arith, drop-cons}
+use Rattle.std.proofs.Common.{◌≡◌, ℕ, zero, suc, ◌+◌, ◌-◌, ◌<◌, ◌≤◌, eqb, ◌⊎◌, List, [], ◌∷◌, length, get_or, drop, set, replicate, Some, None, Option, sym, refl, ap, ◌∙◌, subst, inl, inr, zero-add, arith, drop-cons}
 use Rattle.std.proofs.lemmas.List.{length-map, length-set, get_or-map, get_or-set_same, get_or-set_other, set-get_or, map-set, drop_all, get_or-replicate, length-replicate}
-use Rattle.std.proofs.lemmas.Bool.{cond-true, cond-false, eq-eqb, ne_eqb, cases_eq, cases_lt}
+use Rattle.std.proofs.lemmas.Bool.{cond-true, cond-false, eq-eqb, ne_eqb, cases_eq}
 use Rattle.grid.specs.Layouts.{most_columns}
 use Rattle.grid.specs.declared.fragment.Fragment.{Fragment}
-use Rattle.grid.specs.Tables.{Content, content, contents, blank_content, listed, Narrow, none, Leads, Linked}
+use Rattle.grid.specs.Tables.{Content, content, contents, blank_content, listed, Narrow, Names, from, place, most_fragments, Leads, Linked}
 
 -- ---- the parts of a column, from a place on
 pub listed_here : (ms : List Content) (c k : ℕ) → k < length ms → (get_or ms k blank_content).column ≡ c → listed c (drop k ms) ≡ (get_or ms k blank_content).part ∷ listed c (drop (suc k) ms)
@@ -19,40 +19,45 @@ pub listed_past : (ms : List Content) (c k : ℕ) → length ms ≤ k → listed
 unfolding listed
 listed_past ms c k h = ap (listed c) (drop_all k ms h)
 
+-- where a link leads is in the table, or at its end
+pub named_below : (ms : List Content) (c : ℕ) (j : Option ℕ) → Names ms c j → place (length ms) j ≤ length ms
+named_below ms c None h = omega arith
+named_below ms c (Some j) h = omega arith
+
+from_place : (ms : List Content) (c : ℕ) (j : Option ℕ) → listed c (drop (place (length ms) j) ms) ≡ listed c (from ms j)
+from_place ms c None = ap (listed c) (drop_all (length ms) ms (omega arith))
+from_place ms c (Some j) = refl
+
 -- what a link passes over is of other columns
-pub leads_same : {ms : List Content} {c k j : ℕ} → Leads ms c k j → listed c (drop k ms) ≡ listed c (drop j ms)
-leads_same {ms} {c} {k} {j} w = go (j - k) k (omega (arith, w.ahead)) w.skips
+pub leads_same : {ms : List Content} {c k : ℕ} {j : Option ℕ} → Leads ms c k j → listed c (drop k ms) ≡ listed c (from ms j)
+leads_same {ms} {c} {k} {j} w = go (place (length ms) j - k) k (omega (arith, w.ahead)) w.skips ∙ from_place ms c j
   where
-    go : (n k : ℕ) → n + k ≡ j → ((i : ℕ) → k ≤ i → i < j → i < length ms → (get_or ms i blank_content).column ≡ c → ⊥) → listed c (drop k ms) ≡ listed c (drop j ms)
+    go : (n k : ℕ) → n + k ≡ place (length ms) j → ((i : ℕ) → k ≤ i → i < place (length ms) j → (get_or ms i blank_content).column ≡ c → ⊥) → listed c (drop k ms) ≡ listed c (drop (place (length ms) j) ms)
     go zero k e s = ap (λ (i : ℕ). listed c (drop i ms)) (sym (zero-add k) ∙ e)
-    go (suc n) k e s = elim (cases_lt k (length ms)) [
-      | inl h ↦ listed_skip ms c k h (s k (omega arith) (omega arith) h) ∙ go n (suc k) (omega arith) (λ i a b d. s i (omega arith) b d)
-      | inr h ↦ listed_past ms c k h ∙ sym (listed_past ms c j (omega arith))
-    ]
+    go (suc n) k e s = listed_skip ms c k (omega (arith, named_below ms c j w.inside)) (s k (omega arith) (omega arith)) ∙ go n (suc k) (omega arith) (λ i a b. s i (omega arith) b)
 
 -- ---- the table and what it holds
-pub content_at : (qs : List Fragment) (k : ℕ) (q : Fragment) → k < length qs → q ≡ get_or qs k q → get_or (contents qs) k blank_content ≡ content q
-content_at qs k q h e = get_or-map content qs k q blank_content h ∙ ap content (sym e)
+pub content_at : (qs : List Fragment) (k : ℕ) (d : Fragment) → k < length qs → get_or (contents qs) k blank_content ≡ content (get_or qs k d)
+content_at qs k d h = get_or-map content qs k d blank_content h
 
-pub contents_set : (qs : List Fragment) (k : ℕ) (q q' : Fragment) → k < length qs → q ≡ get_or qs k q → content q' ≡ content q → contents (set qs k q') ≡ contents qs
-contents_set qs k q q' h e f =
-    map-set content qs k q' ∙ ap (set (contents qs) k) (f ∙ sym (content_at qs k q h e)) ∙ set-get_or (contents qs) k blank_content
+contents_set : (qs : List Fragment) (k : ℕ) (d q : Fragment) → k < length qs → content q ≡ content (get_or qs k d) → contents (set qs k q) ≡ contents qs
+contents_set qs k d q h e = map-set content qs k q ∙ ap (set (contents qs) k) (e ∙ sym (content_at qs k d h)) ∙ set-get_or (contents qs) k blank_content
 
 -- ---- linked from k on
-pub record Linking (entry qs : List Fragment) (heads : List ℕ) (k : ℕ) : Type 0 where
+pub record Linking (entry qs : List Fragment) (heads : List (Option ℕ)) (k : ℕ) : Type 0 where
   pub same : contents qs ≡ contents entry
   pub long : length heads ≡ most_columns
   pub within : k ≤ length qs
-  pub starts : (c : ℕ) → c < most_columns → Leads (contents qs) c k (get_or heads c 0)
-  pub goes_on : (j : ℕ) (q : Fragment) → k ≤ j → j < length qs → q ≡ get_or qs j q → Leads (contents qs) q.column (suc j) q.next
+  pub starts : (c : ℕ) → c < most_columns → Leads (contents qs) c k (get_or heads c None)
+  pub goes_on : (j : ℕ) (d : Fragment) → k ≤ j → j < length qs → Leads (contents qs) (get_or qs j d).column (suc j) (get_or qs j d).next
 
-pub linking_none : (qs : List Fragment) → length qs ≤ none → Linking qs qs (replicate most_columns none) (length qs)
-linking_none qs h = record {
+pub linking_none : (qs : List Fragment) → Linking qs qs (replicate most_columns None) (length qs)
+linking_none qs = record {
   same = refl;
-  long = length-replicate most_columns none;
+  long = length-replicate {A = Option ℕ} most_columns None;
   within = omega arith;
-  starts = λ c l. subst (λ (j : ℕ). Leads (contents qs) c (length qs) j) (sym (get_or-replicate most_columns c none 0 l)) (empty c);
-  goes_on = λ j q i l e. absurd (over i l);
+  starts = λ c l. subst (λ (j : Option ℕ). Leads (contents qs) c (length qs) j) (sym (get_or-replicate {A = Option ℕ} most_columns c None None l)) (empty c);
+  goes_on = λ j d i l. absurd (over i l);
 }
   where
     over : {j : ℕ} → length qs ≤ j → j < length qs → ⊥
@@ -61,33 +66,34 @@ linking_none qs h = record {
     past : {i : ℕ} → length qs ≤ i → i < length (contents qs) → ⊥
     past a d = omega (arith, length-map qs content)
 
-    never : none < none → ⊥
-    never i = omega arith
-
-    empty : (c : ℕ) → Leads (contents qs) c (length qs) none
+    empty : (c : ℕ) → Leads (contents qs) c (length qs) None
     empty c = record {
-      ahead = h;
-      bounded = omega arith;
-      inside = λ i. absurd (never i);
-      skips = λ i a b d e. past a d;
+      ahead = omega (arith, length-map qs content);
+      inside = tt;
+      skips = λ i a b e. past a b;
     }
 
-module _ (entry qs : List Fragment) (heads : List ℕ) (k j : ℕ) (q q' : Fragment) (w : Linking entry qs heads k) (short : length qs ≤ none) (next : suc j ≡ k)
-    (read : q ≡ get_or qs j q) (kept : content q' ≡ content q) (link : q'.next ≡ get_or heads q.column 0) (narrow : q.column < most_columns) where
+module _ (entry qs : List Fragment) (heads : List (Option ℕ)) (k j : ℕ) (d q : Fragment) (w : Linking entry qs heads k) (next : suc j ≡ k) (kept : content q ≡ content (get_or qs j d))
+    (link : q.next ≡ get_or heads (get_or qs j d).column None) (narrow : (get_or qs j d).column < most_columns) where
+  c : ℕ
+  c = (get_or qs j d).column
+
   here : j < length qs
   here = omega (arith, w.within)
 
-  after : contents (set qs j q') ≡ contents qs
-  after = contents_set qs j q q' here read kept
+  after : contents (set qs j q) ≡ contents qs
+  after = contents_set qs j d q here kept
 
-  place : (get_or (contents qs) j blank_content).column ≡ q.column
-  place = ap (λ (m : Content). m.column) (content_at qs j q here read)
+  stands : (get_or (contents qs) j blank_content).column ≡ c
+  unfolding c
+  stands = ap (λ (m : Content). m.column) (content_at qs j d here)
 
   size : length (contents qs) ≡ length qs
   size = length-map qs content
 
-  starts_more : (c : ℕ) → c < most_columns → Leads (contents qs) c j (get_or (set heads q.column j) c 0)
-  starts_more c l = go (cases_eq c q.column)
+  starts_more : (b : ℕ) → b < most_columns → Leads (contents qs) b j (get_or (set heads c (Some j)) b None)
+  unfolding c
+  starts_more b l = go (cases_eq b c)
     where
       over : {i : ℕ} → j ≤ i → i < j → ⊥
       over a b = omega arith
@@ -95,53 +101,53 @@ module _ (entry qs : List Fragment) (heads : List ℕ) (k j : ℕ) (q q' : Fragm
       beyond : {i : ℕ} → j ≤ i → (i ≡ j → ⊥) → suc j ≤ i
       beyond a s = omega arith
 
-      go : (c ≡ q.column) ⊎ (c ≡ q.column → ⊥) → Leads (contents qs) c j (get_or (set heads q.column j) c 0)
-      go (inl e) = subst (λ (d : ℕ). Leads (contents qs) d j (get_or (set heads q.column j) d 0)) (sym e)
-          (subst (λ (i : ℕ). Leads (contents qs) q.column j i) (sym (get_or-set_same heads q.column j 0 (omega (arith, w.long)))) (record {
+      go : (b ≡ c) ⊎ (b ≡ c → ⊥) → Leads (contents qs) b j (get_or (set heads c (Some j)) b None)
+      go (inl e) = subst (λ (b : ℕ). Leads (contents qs) b j (get_or (set heads c (Some j)) b None)) (sym e)
+          (subst (λ (i : Option ℕ). Leads (contents qs) c j i) (sym (get_or-set_same heads c (Some j) None (omega (arith, w.long)))) (record {
             ahead = omega arith;
-            bounded = omega (arith, here);
-            inside = λ i. (omega (arith, here, size), place);
-            skips = λ i a b d e. over a b;
+            inside = (omega (arith, here, size), stands);
+            skips = λ i a b e. over a b;
           }))
       go (inr n) =
-          let u = subst (λ (i : ℕ). Leads (contents qs) c i (get_or heads c 0)) (sym next) (w.starts c l) in
-          subst (λ (i : ℕ). Leads (contents qs) c j i) (sym (get_or-set_other heads q.column c j 0 n)) (record {
+          let u = subst (λ (i : ℕ). Leads (contents qs) b i (get_or heads b None)) (sym next) (w.starts b l) in
+          subst (λ (i : Option ℕ). Leads (contents qs) b j i) (sym (get_or-set_other heads c b (Some j) None n)) (record {
             ahead = omega (arith, u.ahead);
-            bounded = u.bounded;
             inside = u.inside;
-            skips = λ i a b d e. elim (cases_eq i j) [ inl s ↦ n (sym e ∙ ap (λ (k : ℕ). (get_or (contents qs) k blank_content).column) s ∙ place) | inr s ↦ u.skips i (beyond a s) b d e ];
+            skips = λ i a b e. elim (cases_eq i j) [ inl s ↦ n (sym e ∙ ap (λ (k : ℕ). (get_or (contents qs) k blank_content).column) s ∙ stands) | inr s ↦ u.skips i (beyond a s) b e ];
           })
 
-  goes_on_more : (i : ℕ) (p : Fragment) → j ≤ i → i < length (set qs j q') → p ≡ get_or (set qs j q') i p → Leads (contents qs) p.column (suc i) p.next
-  goes_on_more i p a b e = go (cases_eq i j)
+  goes_on_more : (i : ℕ) (e : Fragment) → j ≤ i → i < length (set qs j q) → Leads (contents qs) (get_or (set qs j q) i e).column (suc i) (get_or (set qs j q) i e).next
+  goes_on_more i e a b = go (cases_eq i j)
     where
-      go : (i ≡ j) ⊎ (i ≡ j → ⊥) → Leads (contents qs) p.column (suc i) p.next
+      go : (i ≡ j) ⊎ (i ≡ j → ⊥) → Leads (contents qs) (get_or (set qs j q) i e).column (suc i) (get_or (set qs j q) i e).next
       go (inl s) =
-          let is : p ≡ q' = e ∙ ap (λ (n : ℕ). get_or (set qs j q') n p) s ∙ get_or-set_same qs j q' p here in
-          subst (λ (n : ℕ). Leads (contents qs) p.column (suc n) p.next) (sym s)
-          (subst (λ (x : Fragment). Leads (contents qs) x.column (suc j) x.next) (sym is)
-          (subst (λ (n : ℕ). Leads (contents qs) q'.column (suc j) n) (sym link)
-          (subst (λ (n : ℕ). Leads (contents qs) n (suc j) (get_or heads q.column 0)) (sym (ap (λ (m : Content). m.column) kept))
-          (subst (λ (n : ℕ). Leads (contents qs) q.column n (get_or heads q.column 0)) (sym next) (w.starts q.column narrow)))))
-      go (inr n) = w.goes_on i p (past n) (omega (arith, b, length-set qs j q')) (e ∙ get_or-set_other qs j i q' p n)
+          subst (λ (n : ℕ). Leads (contents qs) (get_or (set qs j q) n e).column (suc n) (get_or (set qs j q) n e).next) (sym s)
+          (subst (λ (x : Fragment). Leads (contents qs) x.column (suc j) x.next) (sym (get_or-set_same qs j q e here))
+          (subst (λ (o : Option ℕ). Leads (contents qs) q.column (suc j) o) (sym link)
+          (subst (λ (n : ℕ). Leads (contents qs) n (suc j) (get_or heads (get_or qs j d).column None)) (sym (ap (λ (m : Content). m.column) kept))
+          (subst (λ (n : ℕ). Leads (contents qs) (get_or qs j d).column n (get_or heads (get_or qs j d).column None)) (sym next) (w.starts (get_or qs j d).column narrow)))))
+      go (inr n) =
+          subst (λ (x : Fragment). Leads (contents qs) x.column (suc i) x.next) (sym (get_or-set_other qs j i q e n)) (w.goes_on i e (past n) (omega (arith, b, length-set qs j q)))
         where
           past : (i ≡ j → ⊥) → k ≤ i
           past n = omega arith
 
-  pub linking_more : Linking entry (set qs j q') (set heads q.column j) j
+  pub linking_more : Linking entry (set qs j q) (set heads (get_or qs j d).column (Some j)) j
+  unfolding c
   linking_more = record {
     same = after ∙ w.same;
-    long = length-set heads q.column j ∙ w.long;
-    within = omega (arith, here, length-set qs j q');
-    starts = λ c l. subst (λ (ms : List Content). Leads ms c j (get_or (set heads q.column j) c 0)) (sym after) (starts_more c l);
-    goes_on = λ i p a b e. subst (λ (ms : List Content). Leads ms p.column (suc i) p.next) (sym after) (goes_on_more i p a b e);
+    long = length-set heads c (Some j) ∙ w.long;
+    within = omega (arith, here, length-set qs j q);
+    starts = λ b l. subst (λ (ms : List Content). Leads ms b j (get_or (set heads c (Some j)) b None)) (sym after) (starts_more b l);
+    goes_on = λ i e a b. subst (λ (ms : List Content). Leads ms (get_or (set qs j q) i e).column (suc i) (get_or (set qs j q) i e).next) (sym after) (goes_on_more i e a b);
   }
 
-pub linking_narrow : {entry qs : List Fragment} {heads : List ℕ} {k : ℕ} (q : Fragment) → Linking entry qs heads k → Narrow (contents entry) → 0 < k → q ≡ get_or qs (k - 1) q → q.column < most_columns
-linking_narrow {entry} {qs} {heads} {k} q w n h e =
-    let i : k - 1 < length qs = omega (arith, w.within) in
-    subst (λ (m : Content). m.column < most_columns) (ap (λ (ms : List Content). get_or ms (k - 1) blank_content) (sym w.same) ∙ content_at qs (k - 1) q i e)
-    (n (k - 1) (omega (arith, i, length-map qs content, ap length w.same)))
+-- the column of a fragment that was not linked yet is one of the grid's
+pub linking_narrow : {entry qs : List Fragment} {heads : List (Option ℕ)} {k : ℕ} (j : ℕ) (d : Fragment) → Linking entry qs heads k → Narrow (contents entry) → j < k → (get_or qs j d).column < most_columns
+linking_narrow {entry} {qs} {heads} {k} j d w n h =
+    let i : j < length qs = omega (arith, w.within) in
+    subst (λ (m : Content). m.column < most_columns) (ap (λ (ms : List Content). get_or ms j blank_content) (sym w.same) ∙ content_at qs j d i)
+    (n j (omega (arith, i, length-map qs content, ap length w.same)))
 
-pub linking_all : (entry qs : List Fragment) (heads : List ℕ) → Linking entry qs heads 0 → length qs ≤ none → Linked qs heads
-linking_all entry qs heads w h = record { short = h; starts = w.starts; goes_on = λ k q l e. w.goes_on k q (omega arith) l e }
+pub linking_all : (entry qs : List Fragment) (heads : List (Option ℕ)) → Linking entry qs heads 0 → length qs ≤ most_fragments → Linked qs heads
+linking_all entry qs heads w h = record { short = h; starts = w.starts; goes_on = λ k d l. w.goes_on k d (omega arith) l }

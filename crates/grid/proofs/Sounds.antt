@@ -1,5 +1,5 @@
 -- What is known of a grid from what its table holds.
-use Rattle.std.proofs.Common.{◌≡◌, ℕ, suc, ◌+◌, ◌^◌, ◌<◌, ◌≤◌, min, false, cond, List, [], ◌∷◌, ◌++◌, length, take, ℤ, pos, ◌<ℤ◌, filter, sym, refl, ap, ◌∙◌, subst, zero-add, arith, length-take}
+use Rattle.std.proofs.Common.{◌≡◌, ℕ, suc, ◌+◌, ◌^◌, ◌<◌, ◌≤◌, min, false, cond, List, [], ◌∷◌, ◌++◌, length, take, Option, ℤ, pos, ◌<ℤ◌, filter, sym, refl, ap, ◌∙◌, subst, zero-add, arith, length-take}
 use mathlib.Core.Bool.{false≢true}
 use mathlib.Core.HLevel.{Π_prop, →_prop, ×_prop, Σ_set}
 use mathlib.Core.Logic.{∥∥₁_elim, ∥∥₁_prop}
@@ -25,16 +25,16 @@ use Rattle.grid.specs.declared.cursor.WalkState.TheVariants.{Filling, Column, Bo
 use Rattle.grid.specs.declared.fragment_buffer.FragmentBuffer.{FragmentBuffer}
 use Rattle.grid.specs.Models.{layout_of}
 use Rattle.grid.specs.Meanings.{grid_meaning, grid_walks}
-use Rattle.grid.specs.Tables.{Lies, Content, content, contents, blank_content, listed, edges_in, laid_one, laid, Narrow, none, limit, tail_pairs, stage_pairs, walking?, coming_pairs, ready_pairs, Standing, Sound}
+use Rattle.grid.specs.Tables.{Lies, Content, content, contents, blank_content, listed, edges_in, laid_one, laid, Narrow, most_fragments, limit, tail_pairs, stage_pairs, walking?, coming_pairs, ready_pairs, Stands, Standing, Sound}
 use Rattle.grid.proofs.Columns.{layout_ext}
-use Rattle.grid.proofs.Facts.{standing_prop}
+use Rattle.grid.specs.Facts.{standing_prop}
 use Rattle.grid.proofs.Laid.{listed_laid, length_laid, laid_push, edges_append, edges_one, laid_below}
 use Rattle.grid.proofs.Placing.{last_few}
 use Rattle.grid.proofs.Walks.{grid_walk}
 
-pub sound_empty : {table : List Fragment} {n : ℕ} {b : Box} {l : Layout} {heads : List ℕ} → n ≤ 4096 → width b <ℤ pos (2 ^ 32) → l ≡ layout b n → Sound table 0 0 n b l heads Filling
+pub sound_empty : {table : List Fragment} {n : ℕ} {b : Box} {l : Layout} {heads : List (Option ℕ)} → n ≤ 4096 → width b <ℤ pos (2 ^ 32) → l ≡ layout b n → Sound table 0 0 n b l heads Filling
 unfolding edges_in laid
-sound_empty h w e = record { room = omega arith; holds = refl; counts = refl; below = omega arith; few = h; wide = w; layout_is = e; lies = tt; stands = tt }
+sound_empty h w e = record { room = omega arith; holds = refl; counts = refl; below = omega arith; few = h; wide = w; layout_is = e; lies = tt; stands = record { linked = λ t. absurd (false≢true t); stands = tt } }
 
 -- ---- one more edge
 idle_pairs : (l : Layout) (ms : List Content) (state : WalkState) → walking? state ≡ false → coming_pairs l ms state ≡ []
@@ -44,17 +44,17 @@ idle_pairs l ms (Column at) e = absurd (false≢true (sym e))
 idle_pairs l ms (Border at) e = absurd (false≢true (sym e))
 idle_pairs l ms Done e = absurd (false≢true (sym e))
 
-idle_stands : (qs : List Fragment) (heads : List ℕ) (state : WalkState) → walking? state ≡ false → Standing qs heads state
-idle_stands qs heads Filling e = tt
-idle_stands qs heads (Column at) e = absurd (false≢true (sym e))
-idle_stands qs heads (Border at) e = absurd (false≢true (sym e))
-idle_stands qs heads Done e = tt
+idle_stands : (ms : List Content) (state : WalkState) → walking? state ≡ false → Stands ms state
+idle_stands ms Filling e = tt
+idle_stands ms (Column at) e = absurd (false≢true (sym e))
+idle_stands ms (Border at) e = absurd (false≢true (sym e))
+idle_stands ms Done e = tt
 
 pub edges_more : (l : Layout) (ms ns : List Content) (i : ℕ) (e : Edge) → first_column l e ≤ last_column l e → ns ≡ ms ++ laid_one l i e → edges_in l ns ≡ edges_in l ms ++ e ∷ []
 edges_more l ms ns i e h s = ap (edges_in l) s ∙ edges_append l ms (laid_one l i e) ∙ ap (λ (es : List Edge). edges_in l ms ++ es) (edges_one l i e h)
 
-pub sound_more : {table table' : List Fragment} {used shown n : ℕ} {b : Box} {l : Layout} {heads : List ℕ} {state : WalkState} (e : Edge) (k : ℕ)
-    → Sound table used shown n b l heads state → walking? state ≡ false → shown < n → Lies b e → first_column l e ≤ last_column l e → used + k ≤ min (length table') none
+pub sound_more : {table table' : List Fragment} {used shown n : ℕ} {b : Box} {l : Layout} {heads : List (Option ℕ)} {state : WalkState} (e : Edge) (k : ℕ)
+    → Sound table used shown n b l heads state → walking? state ≡ false → shown < n → Lies b e → first_column l e ≤ last_column l e → used + k ≤ min (length table') most_fragments
     → contents (take (used + k) table') ≡ contents (take used table) ++ laid_one l shown e → Sound table' (used + k) (shown + 1) n b l heads state
 sound_more {table} {table'} {used} {shown} {n} {b} {l} {heads} {state} e k s idle few w o room is = record {
   room = room;
@@ -65,7 +65,7 @@ sound_more {table} {table'} {used} {shown} {n} {b} {l} {heads} {state} e k s idl
   wide = s.wide;
   layout_is = s.layout_is;
   lies = subst (λ (es : List Edge). AllByRecursion (Lies b) es) (sym more) (All-push (Lies b) es e s.lies w);
-  stands = idle_stands (take (used + k) table') heads state idle;
+  stands = record { linked = λ t. absurd (false≢true (sym idle ∙ t)); stands = idle_stands (contents (take (used + k) table')) state idle };
 }
   where
     es : List Edge
@@ -75,7 +75,7 @@ sound_more {table} {table'} {used} {shown} {n} {b} {l} {heads} {state} e k s idl
     more = edges_more l (contents (take used table)) (contents (take (used + k) table')) shown e o is
 
 -- ---- a walk changes links alone
-pub sound_walked : {table table' : List Fragment} {used shown n : ℕ} {b : Box} {l : Layout} {heads heads' : List ℕ} {state state' : WalkState}
+pub sound_walked : {table table' : List Fragment} {used shown n : ℕ} {b : Box} {l : Layout} {heads heads' : List (Option ℕ)} {state state' : WalkState}
     → Sound table used shown n b l heads state → contents (take used table') ≡ contents (take used table) → length table' ≡ length table → Standing (take used table') heads' state'
     → Sound table' used shown n b l heads' state'
 sound_walked {table} {table'} {used} {shown} {n} {b} {l} s e k stands = record {

@@ -3,5 +3,6 @@ pub mod Rectangles
 pub mod Grid
 pub mod Worked
 pub mod Tables
+pub mod Facts
 pub mod Models
 pub mod Meanings

@@ -1,5 +1,5 @@
 -- What the table of fragments holds, how its columns are linked, and where a walk stands.
-use Rattle.std.specs.Prelude.{◌≡◌, ℕ, suc, ◌+◌, ◌-◌, ◌*◌, ◌^◌, ◌<◌, ◌≤◌, min, Bool, true, false, cond, ◌⊎◌, List, [], ◌∷◌, ◌++◌, map, length, get_or, take, drop, pos, ◌≤ℤ◌, ◌<ℤ◌, Some, None, filter, Option, ◌==◌, ◌≢◌, slice_index, slice_index_or}
+use Rattle.std.specs.Prelude.{◌≡◌, ℕ, suc, ◌+◌, ◌-◌, ◌*◌, ◌^◌, ◌<◌, ◌≤◌, min, Bool, true, false, cond, ◌⊎◌, List, [], ◌∷◌, ◌++◌, map, length, get_or, take, drop, pos, ◌≤ℤ◌, ◌<ℤ◌, Some, None, filter, Option, ◌==◌, ◌≢◌, slice_index_or}
 use Rattle.std.specs.List.{range_with_len, flat_map, AllByRecursion}
 use Rattle.plane.specs.Edges.{Edge, Proper}
 use Rattle.plane.specs.Models.{edge_of}
@@ -64,22 +64,36 @@ abbrev pub Narrow : List Content → Type 0
 Narrow ms = (k : ℕ) → k < length ms → (get_or ms k blank_content).column < most_columns
 
 -- ---- links
--- no table uses more fragments, so that this is the number of none
-abbrev pub none : ℕ
-none = 524288
+-- no table uses more fragments
+abbrev pub most_fragments : ℕ
+most_fragments = 524288
 
--- from k on, column c begins with j, or is empty if j is none
-pub record Leads (ms : List Content) (c k j : ℕ) : Type 0 where
-  pub ahead : k ≤ j
-  pub bounded : j ≤ none
-  pub inside : j < none → (j < length ms) × ((get_or ms j blank_content).column ≡ c)
-  pub skips : (i : ℕ) → k ≤ i → i < j → i < length ms → (get_or ms i blank_content).column ≢ c
+-- a link names a fragment of column c, or none
+abbrev pub Names : List Content → ℕ → Option ℕ → Type 0
+Names ms c None = Unit {0}
+Names ms c (Some j) = (j < length ms) × ((get_or ms j blank_content).column ≡ c)
+
+-- the fragments from a link on
+abbrev pub from : List Content → Option ℕ → List Content
+from ms None = []
+from ms (Some j) = drop j ms
+
+-- where they begin among n
+abbrev pub place : ℕ → Option ℕ → ℕ
+place n None = n
+place n (Some j) = j
+
+-- from k on, column c begins with the fragment that j names, or is empty
+pub record Leads (ms : List Content) (c k : ℕ) (j : Option ℕ) : Type 0 where
+  pub ahead : k ≤ place (length ms) j
+  pub inside : Names ms c j
+  pub skips : (i : ℕ) → k ≤ i → i < place (length ms) j → (get_or ms i blank_content).column ≢ c
 
 -- each column has its first fragment in heads, and each fragment the next of its column in `next`
-pub record Linked (qs : List Fragment) (heads : List ℕ) : Type 0 where
-  pub short : length qs ≤ none
-  pub starts : (c : ℕ) → c < most_columns → Leads (contents qs) c 0 (slice_index heads c)
-  pub goes_on : (k : ℕ) (q : Fragment) → k < length qs → q ≡ slice_index_or qs k q → Leads (contents qs) q.column (suc k) q.next
+pub record Linked (qs : List Fragment) (heads : List (Option ℕ)) : Type 0 where
+  pub short : length qs ≤ most_fragments
+  pub starts : (c : ℕ) → c < most_columns → Leads (contents qs) c 0 (slice_index_or heads c None)
+  pub goes_on : (k : ℕ) (d : Fragment) → k < length qs → Leads (contents qs) (slice_index_or qs k d).column (suc k) (slice_index_or qs k d).next
 
 -- ---- where a walk stands
 -- the test of two parts, the column of the first, and how many columns or borders there are
@@ -104,51 +118,49 @@ unfoldable pub stage_pairs : Layout → Stage → List Content → ℕ → List 
 stage_pairs l stage ms c = tail_pairs l stage ms c (listed (first_of stage c) ms)
 
 -- the pairs of fragment i of column or border c with those from j on, and of the fragments after i
-unfoldable pub here_pairs : Layout → Stage → List Content → ℕ → ℕ → ℕ → List Pair
-here_pairs l stage ms c i j =
-    pairs_with (passes? stage) (get_or ms i blank_content).part (listed c (drop j ms)) ++ tail_pairs l stage ms c (listed (first_of stage c) (drop (suc i) ms))
+unfoldable pub here_pairs : Layout → Stage → List Content → ℕ → Option ℕ → Option ℕ → List Pair
+here_pairs l stage ms c None j = []
+here_pairs l stage ms c (Some i) j =
+    pairs_with (passes? stage) (get_or ms i blank_content).part (listed c (from ms j)) ++ tail_pairs l stage ms c (listed (first_of stage c) (drop (suc i) ms))
 
 -- the partners of fragment i are those of column c from j on; a fragment that is no vertical on the border has none there
-abbrev pub Partners : Layout → Stage → List Content → ℕ → ℕ → ℕ → Type 0
-Partners l Columns ms c i j = listed c (drop (suc i) ms) ≡ listed c (drop j ms)
+abbrev pub Partners : Layout → Stage → List Content → ℕ → ℕ → Option ℕ → Type 0
+Partners l Columns ms c i j = listed c (drop (suc i) ms) ≡ listed c (from ms j)
 Partners l Borders ms c i j =
-    ((on_border? (border l (suc c)) (get_or ms i blank_content).part ≡ true) × (listed c ms ≡ listed c (drop j ms)))
-    ⊎ ((on_border? (border l (suc c)) (get_or ms i blank_content).part ≡ false) × (listed c (drop j ms) ≡ []))
+    ((on_border? (border l (suc c)) (get_or ms i blank_content).part ≡ true) × (listed c ms ≡ listed c (from ms j)))
+    ⊎ ((on_border? (border l (suc c)) (get_or ms i blank_content).part ≡ false) × (listed c (from ms j) ≡ []))
 
 -- those, and the pairs of the columns or borders after c
 unfoldable pub rest_pairs : Layout → Stage → List Content → Cursor → List Pair
 rest_pairs l stage ms at =
     here_pairs l stage ms at.column at.first at.second ++ flat_map (stage_pairs l stage ms) (range_with_len (suc at.column) (limit stage - suc at.column))
 
--- a cursor stands on fragments of the columns that it is to compare, or on none
+-- a cursor stands on fragments of the columns that it is to compare, or on none; on a second only beside a first
 pub record Placed (stage : Stage) (ms : List Content) (at : Cursor) : Type 0 where
   pub few : at.column < limit stage
-  pub first_bound : at.first ≤ none
-  pub second_bound : at.second ≤ none
-  pub first_in : at.first < none → (at.first < length ms) × ((get_or ms at.first blank_content).column ≡ first_of stage at.column)
-  pub second_in : at.second < none → (at.first < none) × (at.second < length ms) × ((get_or ms at.second blank_content).column ≡ at.column)
-
--- i is a first fragment of column or border c, or none
-pub record Begins (stage : Stage) (ms : List Content) (c i : ℕ) : Type 0 where
-  pub bounded : i ≤ none
-  pub inside : i < none → (i < length ms) × ((get_or ms i blank_content).column ≡ first_of stage c)
+  pub first_in : Names ms (first_of stage at.column) at.first
+  pub second_in : Names ms at.column at.second
+  pub beside : at.first ≡ None → at.second ≡ None
 
 -- the partners of i in column c begin with j
-pub record Partnered (l : Layout) (stage : Stage) (ms : List Content) (c i j : ℕ) : Type 0 where
+pub record Partnered (l : Layout) (stage : Stage) (ms : List Content) (c i : ℕ) (j : Option ℕ) : Type 0 where
   pub partners : Partners l stage ms c i j
-  pub bounded : j ≤ none
-  pub inside : j < none → (j < length ms) × ((get_or ms j blank_content).column ≡ c)
+  pub inside : Names ms c j
 
 -- a cursor at fragment i of column or border c, with all pairs of those from i on to come
-pub record Begun (l : Layout) (stage : Stage) (ms : List Content) (c i : ℕ) (at : Cursor) : Type 0 where
+pub record Begun (l : Layout) (stage : Stage) (ms : List Content) (c : ℕ) (i : Option ℕ) (at : Cursor) : Type 0 where
   pub placed : Placed stage ms at
   pub at_column : at.column ≡ c
   pub at_first : at.first ≡ i
-  pub opens : here_pairs l stage ms c i at.second ≡ tail_pairs l stage ms c (listed (first_of stage c) (drop i ms))
+  pub opens : here_pairs l stage ms c i at.second ≡ tail_pairs l stage ms c (listed (first_of stage c) (from ms i))
 
 -- how many steps it can take at most
+abbrev pub left : Option ℕ → ℕ
+left None = 0
+left (Some i) = most_fragments - i
+
 abbrev pub steps_left : Cursor → ℕ
-steps_left at = ((most_columns - at.column) * (none + 1) + (none - at.first)) * (none + 1) + (none - at.second)
+steps_left at = ((most_columns - at.column) * (most_fragments + 1) + left at.first) * (most_fragments + 1) + left at.second
 
 -- a cursor goes on to the next first fragment, or there is none, and nothing is left
 abbrev pub Advanced : Layout → Stage → List Content → Cursor → Option Cursor → Type 0
@@ -173,24 +185,30 @@ coming_pairs l ms (Column at) = rest_pairs l Columns ms at ++ flat_map (stage_pa
 coming_pairs l ms (Border at) = rest_pairs l Borders ms at
 coming_pairs l ms Done = []
 
-abbrev pub Standing : List Fragment → List ℕ → WalkState → Type 0
-Standing qs heads Filling = Unit {0}
-Standing qs heads (Column at) = Linked qs heads × Placed Columns (contents qs) at
-Standing qs heads (Border at) = Linked qs heads × Placed Borders (contents qs) at
-Standing qs heads Done = Unit {0}
+-- a walk that goes on stands at a cursor of its stage
+abbrev pub Stands : List Content → WalkState → Type 0
+Stands ms Filling = Unit {0}
+Stands ms (Column at) = Placed Columns ms at
+Stands ms (Border at) = Placed Borders ms at
+Stands ms Done = Unit {0}
+
+-- and the columns are linked once it has begun
+pub record Standing (qs : List Fragment) (heads : List (Option ℕ)) (state : WalkState) : Type 0 where
+  pub linked : walking? state ≡ true → Linked qs heads
+  pub stands : Stands (contents qs) state
 
 -- the beginning of a walk: all pairs are to come
-pub record Started (qs : List Fragment) (heads : List ℕ) (l : Layout) (state : WalkState) : Type 0 where
+pub record Started (qs : List Fragment) (l : Layout) (state : WalkState) : Type 0 where
   pub comes : coming_pairs l (contents qs) state
       ≡ flat_map (stage_pairs l Columns (contents qs)) (range_with_len 0 (limit Columns)) ++ flat_map (stage_pairs l Borders (contents qs)) (range_with_len 0 (limit Borders))
-  pub stands : Standing qs heads state
+  pub stands : Stands (contents qs) state
   pub walks : walking? state ≡ true
 
 -- a step of a walk: the first of the pairs to come, and the others left
-pub record Stepped (qs : List Fragment) (heads : List ℕ) (l : Layout) (before : WalkState) (step : Step) : Type 0 where
+pub record Stepped (qs : List Fragment) (l : Layout) (before : WalkState) (step : Step) : Type 0 where
   pub gives : step.pair ≡ first (coming_pairs l (contents qs) before)
   pub leaves : coming_pairs l (contents qs) step.state ≡ rest (coming_pairs l (contents qs) before)
-  pub stands : Standing qs heads step.state
+  pub stands : Stands (contents qs) step.state
   pub walks : walking? step.state ≡ true
 
 -- the pairs that are there to be given: where a walk begins all of them, else those still to come
@@ -201,7 +219,7 @@ ready_pairs l ms (Border at) = coming_pairs l ms (Border at)
 ready_pairs l ms Done = coming_pairs l ms Done
 
 -- a call of a walk: the first of those pairs, and the others left; what the table holds stays
-pub record Walked (used : ℕ) (l : Layout) (before : WalkState) (entry exit : List Fragment) (heads : List ℕ) (step : Step) : Type 0 where
+pub record Walked (used : ℕ) (l : Layout) (before : WalkState) (entry exit : List Fragment) (heads : List (Option ℕ)) (step : Step) : Type 0 where
   pub same : contents (take used exit) ≡ contents (take used entry)
   pub gives : step.pair ≡ first (ready_pairs l (contents (take used entry)) before)
   pub leaves : coming_pairs l (contents (take used exit)) step.state ≡ rest (ready_pairs l (contents (take used entry)) before)
@@ -209,8 +227,8 @@ pub record Walked (used : ℕ) (l : Layout) (before : WalkState) (entry exit : L
   pub walks : walking? step.state ≡ true
 
 -- ---- the whole table
-pub record Sound (table : List Fragment) (used shown announced : ℕ) (box : Box) (l : Layout) (heads : List ℕ) (state : WalkState) : Type 0 where
-  pub room : used ≤ min (length table) none
+pub record Sound (table : List Fragment) (used shown announced : ℕ) (box : Box) (l : Layout) (heads : List (Option ℕ)) (state : WalkState) : Type 0 where
+  pub room : used ≤ min (length table) most_fragments
   pub holds : contents (take used table) ≡ laid l 0 (edges_in l (contents (take used table)))
   pub counts : length (edges_in l (contents (take used table))) ≡ shown
   pub below : shown ≤ announced

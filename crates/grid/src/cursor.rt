@@ -1,11 +1,11 @@
 //! Where a walk over linked columns stands.
 
-/// A column, or the border at its right; a fragment, and the one that it is to be compared with next.
+/// A column, or the border at its right; a fragment if one is left there, and the one that it is to be compared with next.
 #[derive(Clone, Copy)]
 pub struct Cursor {
     pub column: usize,
-    pub first: usize,
-    pub second: usize,
+    pub first: Option<usize>,
+    pub second: Option<usize>,
 }
 
 /// A pair of numbers, and where the walk stands behind it.

@@ -13,13 +13,14 @@ pub struct Fragment {
     pub column: usize,
     pub rect: IntRect,
     /// The next fragment of the column, once a walk has begun.
-    pub next: usize,
+    // Stays: a number and no reference, since the table is the caller's slice; sorting it by columns would lose the order shown, in which it tells the edges.
+    pub next: Option<usize>,
 }
 
 impl Fragment {
     /// A fragment to fill a table with: what it holds does not matter.
     pub fn blank() -> Fragment
-        ensures { (result.index ≡ 0) × (result.column ≡ 0) × (result.next ≡ 0) }
+        ensures { (result.index ≡ 0) × (result.column ≡ 0) × (result.next ≡ None) }
     {
         Fragment {
             index: 0,
@@ -29,7 +30,7 @@ impl Fragment {
             },
             column: 0,
             rect: IntRect::ZERO,
-            next: 0,
+            next: None,
         }
     }
 }

@@ -18,7 +18,7 @@ pub struct FragmentBuffer<'a> {
     announced: usize,
     extent: IntRect,
     layout: GridLayout,
-    heads: [usize; 128],
+    heads: [Option<usize>; 128],
     state: WalkState,
     ghost sound: { ∥ Sound fragments.now used shown announced (box_of extent) (layout_of layout) heads state ∥₁ },
 }

@@ -7,7 +7,6 @@ ghost use Rattle.grid.specs.Tables.{content, contents, laid_in, laid_one};
 
 use crate::fragment::Fragment;
 use crate::grid_layout::GridLayout;
-use crate::linking::NONE;
 use crate::rectangle::rectangle;
 use plane::x_segment::XSegment;
 
@@ -56,7 +55,7 @@ fn fragment_in(
         x_segment: s,
         column,
         rect: rectangle(layout, s, column, first, last),
-        next: NONE,
+        next: None,
     }
 }
 

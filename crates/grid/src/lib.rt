@@ -6,6 +6,7 @@ pub mod fragment;
 pub mod fragment_buffer;
 pub mod grid_layout;
 mod laying;
+mod linked_table;
 mod linking;
 mod rectangle;
 mod stepping;

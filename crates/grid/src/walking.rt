@@ -5,12 +5,12 @@ ghost use Rattle.finder.specs.Finders.{box_of};
 ghost use Rattle.grid.specs.Rectangles.{stands_at?};
 ghost use Rattle.grid.specs.Grid.{share?, in_order};
 ghost use Rattle.grid.specs.Models.{layout_of};
-ghost use Rattle.grid.specs.Tables.{content, contents, blank_content, Linked, passes?, first_of, limit, Placed, Begins, Partnered, Begun, Advanced, Finds};
+ghost use Rattle.grid.specs.Tables.{content, contents, Names, passes?, first_of, limit, Placed, Partnered, Begun, Advanced, Finds};
 
 use crate::cursor::{Cursor, Found, Stage};
 use crate::fragment::Fragment;
-use crate::grid_layout::GridLayout;
-use crate::linking::{COLUMNS, NONE};
+use crate::linked_table::LinkedTable;
+use crate::linking::COLUMNS;
 use finder::int_rect::IntRect;
 use plane::x_segment::XSegment;
 
@@ -49,7 +49,7 @@ fn passes(stage: Stage, p: Fragment, q: Fragment) -> bool
 fn in_order(i: usize, j: usize) -> (usize, usize)
     ensures { result ≡ in_order i j }
 {
-    if i <= j { (i, j) } else { (j, i) }
+    (i.min(j), i.max(j))
 }
 
 /// How many columns or borders there are.
@@ -73,120 +73,80 @@ fn first_column(stage: Stage, column: usize) -> usize
     }
 }
 
-/// Where the partners of a first fragment begin: behind it in its own column, or at the head of the column left of its border.
-fn partners(
-    table: &[Fragment],
-    heads: &[usize; COLUMNS],
-    layout: GridLayout,
-    stage: Stage,
-    column: usize,
-    first: usize,
-) -> usize
-    requires linked { Linked table.now heads.now }
-    requires few { column < limit stage }
-    requires inside { first < length table.now }
-    requires stands { (slice_index_or (contents table.now) first blank_content).column ≡ first_of stage column }
-    ensures { Partnered (layout_of layout) stage (contents table.now) column first result }
-{
-    let fragment = table[first];
-    match stage {
-        Stage::Columns => fragment.next,
-        Stage::Borders => {
-            if stands_at(fragment.x_segment, layout.pos(column + 1)) {
-                heads[column]
-            } else {
-                NONE
+impl LinkedTable<'_> {
+    /// Where the partners of a first fragment begin: behind it in its own column, or at the head of the column left of its border.
+    fn partners(&self, stage: Stage, column: usize, first: usize) -> Option<usize>
+        requires few { column < limit stage }
+        requires named { Names (contents self.now.table.now) (first_of stage column) (Some first) }
+        ensures { Partnered (layout_of self.now.layout) stage (contents self.now.table.now) column first result }
+    {
+        let fragment = self.table[first];
+        match stage {
+            Stage::Columns => fragment.next,
+            Stage::Borders => {
+                if stands_at(fragment.x_segment, self.layout.pos(column + 1)) {
+                    self.heads[column]
+                } else {
+                    None
+                }
             }
         }
     }
-}
 
-/// A cursor at a first fragment, or at none.
-pub(crate) fn begin(
-    table: &[Fragment],
-    heads: &[usize; COLUMNS],
-    layout: GridLayout,
-    stage: Stage,
-    column: usize,
-    first: usize,
-) -> Cursor
-    requires linked { Linked table.now heads.now }
-    requires few { column < limit stage }
-    requires begins { Begins stage (contents table.now) column first }
-    ensures { Begun (layout_of layout) stage (contents table.now) column first result }
-{
-    if first < NONE {
-        let second = partners(table, heads, layout, stage, column, first);
-        return Cursor {
+    /// A cursor at a first fragment, or at none.
+    pub(crate) fn begin(&self, stage: Stage, column: usize, first: Option<usize>) -> Cursor
+        requires few { column < limit stage }
+        requires named { Names (contents self.now.table.now) (first_of stage column) first }
+        ensures { Begun (layout_of self.now.layout) stage (contents self.now.table.now) column first result }
+    {
+        let second = match first {
+            Some(first) => self.partners(stage, column, first),
+            None => None,
+        };
+        Cursor {
             column,
             first,
             second,
-        };
+        }
     }
-    Cursor {
-        column,
-        first,
-        second: NONE,
-    }
-}
 
-/// The cursor at the next first fragment, once all partners of this one were met.
-fn advance(
-    table: &[Fragment],
-    heads: &[usize; COLUMNS],
-    layout: GridLayout,
-    stage: Stage,
-    at: Cursor,
-) -> Option<Cursor>
-    requires linked { Linked table.now heads.now }
-    requires placed { Placed stage (contents table.now) at }
-    requires met { 524288 ≤ at.second }
-    ensures { Advanced (layout_of layout) stage (contents table.now) at result }
-{
-    if at.first < NONE {
-        let fragment = table[at.first];
-        return Some(begin(table, heads, layout, stage, at.column, fragment.next));
+    /// The cursor at the next first fragment, once all partners of this one were met.
+    fn advance(&self, stage: Stage, at: Cursor) -> Option<Cursor>
+        requires placed { Placed stage (contents self.now.table.now) at }
+        requires met { at.second ≡ None }
+        ensures { Advanced (layout_of self.now.layout) stage (contents self.now.table.now) at result }
+    {
+        if let Some(first) = at.first {
+            let next = self.table[first].next;
+            return Some(self.begin(stage, at.column, next));
+        }
+        let column = at.column + 1;
+        if column < limit_of(stage) {
+            let head = self.heads[first_column(stage, column)];
+            return Some(self.begin(stage, column, head));
+        }
+        None
     }
-    let column = at.column + 1;
-    if column < limit_of(stage) {
-        let head = heads[first_column(stage, column)];
-        return Some(begin(table, heads, layout, stage, column, head));
-    }
-    None
-}
 
-/// The next pair from a cursor on.
-pub(crate) fn find(
-    table: &[Fragment],
-    heads: &[usize; COLUMNS],
-    layout: GridLayout,
-    stage: Stage,
-    from: Cursor,
-) -> Option<Found>
-    requires linked { Linked table.now heads.now }
-    requires placed { Placed stage (contents table.now) from }
-    ensures { Finds (layout_of layout) stage (contents table.now) from result }
-{
-    let mut at = from;
-    loop {
-        if at.second < NONE {
-            let p = table[at.first];
-            let q = table[at.second];
-            at = Cursor {
-                column: at.column,
-                first: at.first,
-                second: q.next,
+    /// The next pair from a cursor on.
+    pub(crate) fn find(&self, stage: Stage, from: Cursor) -> Option<Found>
+        requires { Placed stage (contents self.now.table.now) from }
+        ensures { Finds (layout_of self.now.layout) stage (contents self.now.table.now) from result }
+    {
+        let mut at = from;
+        loop {
+            let (Some(first), Some(second)) = (at.first, at.second) else {
+                at = self.advance(stage, at)?;
+                continue;
             };
+            let p = self.table[first];
+            let q = self.table[second];
+            at.second = q.next;
             if passes(stage, p, q) {
                 return Some(Found {
                     at,
                     pair: in_order(p.index, q.index),
                 });
-            }
-        } else {
-            match advance(table, heads, layout, stage, at) {
-                Some(next) => at = next,
-                None => return None,
             }
         }
     }

@@ -12,8 +12,8 @@ use crate::fragment::Fragment;
 use crate::fragment_buffer::FragmentBuffer;
 use crate::grid_layout::GridLayout;
 use crate::laying::{columns_of, lay};
-use crate::linking::{COLUMNS, NONE, link};
-use crate::stepping::{first_state, step};
+use crate::linked_table::LinkedTable;
+use crate::linking::{COLUMNS, MOST_FRAGMENTS, link};
 use finder::checking::{announced_edges, checked};
 use finder::finding::Finder;
 use finder::int_rect::IntRect;
@@ -34,7 +34,7 @@ impl<'a> FragmentBuffer<'a> {
             announced: 0,
             extent: IntRect::ZERO,
             layout,
-            heads: [NONE; COLUMNS],
+            heads: [None; COLUMNS],
             state: WalkState::Filling,
         }
     }
@@ -44,10 +44,7 @@ impl<'a> FragmentBuffer<'a> {
 fn is_walking(state: WalkState) -> bool
     ensures { result ≡ walking? state }
 {
-    match state {
-        WalkState::Filling => false,
-        WalkState::Column(_) | WalkState::Border(_) | WalkState::Done => true,
-    }
+    !matches!(state, WalkState::Filling)
 }
 
 impl<'a> Finder for FragmentBuffer<'a> {
@@ -71,7 +68,7 @@ impl<'a> Finder for FragmentBuffer<'a> {
         let walking = is_walking(self.state);
         let s = checked(walking, self.announced, self.shown, self.extent, a, b)?;
         let (first, count) = columns_of(self.layout, s);
-        let capacity = self.fragments.len().min(NONE);
+        let capacity = self.fragments.len().min(MOST_FRAGMENTS);
         if capacity - self.used < count {
             return Err(Fault::FinderFull(self.shown));
         }
@@ -108,7 +105,7 @@ fn walk(
     fragments: &mut [Fragment],
     used: usize,
     layout: GridLayout,
-    heads: &mut [usize; COLUMNS],
+    heads: &mut [Option<usize>; COLUMNS],
     state: WalkState,
 ) -> Step
     requires room { used ≤ min (length fragments.old) 524288 }
@@ -118,8 +115,17 @@ fn walk(
 {
     if let WalkState::Filling = state {
         *heads = link(&mut fragments[0..used]);
-        let begun = first_state(&fragments[0..used], heads, layout);
-        return step(&fragments[0..used], heads, layout, begun);
+        let linked = LinkedTable {
+            table: &fragments[0..used],
+            heads,
+            layout,
+        };
+        return linked.step(linked.first_state());
     }
-    step(&fragments[0..used], heads, layout, state)
+    let linked = LinkedTable {
+        table: &fragments[0..used],
+        heads,
+        layout,
+    };
+    linked.step(state)
 }

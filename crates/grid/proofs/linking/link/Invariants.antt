@@ -3,6 +3,3 @@ use Rattle.grid.proofs.linking.link.Given as goal
 
 abbrev pub invariant-loop-k : goal.invariant-loop-k
 invariant-loop-k l = Linking l.initial.fragments l.fragments l.heads l.k
-
-abbrev pub decreases-loop-k : goal.decreases-loop-k
-decreases-loop-k l = l.k

@@ -2,7 +2,7 @@ use Rattle.std.proofs.Common.{ℕ, min, take, ap}
 use mathlib.Core.Logic.{∥∥₁_map}
 use Rattle.finder.specs.Finders.{box_of}
 use Rattle.grid.specs.Models.{layout_of}
-use Rattle.grid.specs.Tables.{contents, edges_in, none, ready_pairs}
+use Rattle.grid.specs.Tables.{contents, edges_in, most_fragments, ready_pairs}
 use Rattle.grid.proofs.Sounds.{known_room, known_standing, known_narrow, may_come, sound_walked}
 use Rattle.grid.proofs.fragment_buffer.methods.FragmentBufferFinder.next.Goals as goal
 
@@ -27,6 +27,6 @@ returns c =
         shown = ap (edges_in (layout_of g.layout)) c.walk-after.ensures.same i;
         coming = c.walk-after.ensures.leaves i;
         walking = c.walk-after.ensures.walks i;
-        capacity = ap (λ (n : ℕ). min n none) c.walk-after.auto.fragments i;
+        capacity = ap (λ (n : ℕ). min n most_fragments) c.walk-after.auto.fragments i;
       };
     }

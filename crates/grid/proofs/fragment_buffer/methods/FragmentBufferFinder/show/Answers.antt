@@ -13,7 +13,7 @@ use Rattle.grid.specs.Rectangles.{first_column, last_column, fragments}
 use Rattle.grid.specs.Grid.{grid_need}
 use Rattle.grid.specs.Meanings.{grid_meaning}
 use Rattle.grid.specs.Models.{layout_of}
-use Rattle.grid.specs.Tables.{Lies, contents, edges_in, none, coming_pairs, walking?}
+use Rattle.grid.specs.Tables.{Lies, contents, edges_in, most_fragments, coming_pairs, walking?}
 use Rattle.grid.specs.declared.fragment.Fragment.{Fragment}
 use Rattle.grid.specs.declared.fragment_buffer.FragmentBuffer.{FragmentBuffer}
 use Rattle.grid.proofs.Placing.{columns_ordered, last_few, lies_by}
@@ -62,7 +62,7 @@ module _ (g : FragmentBuffer) (b : Bool) (s : XSegment) (e : Edge) (h : early_re
 shown_after : (g : FragmentBuffer) (e : Edge) (table : List Fragment) (used : ℕ) → edges_in (layout_of g.layout) (contents (take used table)) ≡ (grid_meaning g).shown ++ e ∷ []
     → walking? g.state ≡ false → length table ≡ length g.fragments.now
     → ◌≡◌ {A = Meaning}
-    (record { box = box_of g.extent; announced = g.announced; shown = edges_in (layout_of g.layout) (contents (take used table)); coming = coming_pairs (layout_of g.layout) (contents (take used table)) g.state; walking = walking? g.state; capacity = min (length table) none })
+    (record { box = box_of g.extent; announced = g.announced; shown = edges_in (layout_of g.layout) (contents (take used table)); coming = coming_pairs (layout_of g.layout) (contents (take used table)) g.state; walking = walking? g.state; capacity = min (length table) most_fragments })
     (with_shown e (grid_meaning g))
 shown_after g e table used s w k = λ i. record {
   box = box_of g.extent;
@@ -70,7 +70,7 @@ shown_after g e table used s w k = λ i. record {
   shown = s i;
   coming = (known_idle g (contents (take used table)) w ∙ sym (known_idle g (contents (take g.used g.fragments.now)) w)) i;
   walking = walking? g.state;
-  capacity = ap (λ (n : ℕ). min n none) k i;
+  capacity = ap (λ (n : ℕ). min n most_fragments) k i;
 }
 
 pub returns-in_err-s : goal.returns-in_err-s
@@ -120,7 +120,7 @@ invariant_of-self c =
     let e : Edge = record { a = plain_point c.args.a; b = plain_point c.args.b } in
     let w = c.in_ok-s.ensures in
     let b = c.is_walking-walking.result in
-    let room : g.used + c.columns_of-first.result.1 ≤ min (length c.lay.new.table) none = omega (arith, known_room g, c.min-capacity.ensures, c.if-capacity-self.false, c.lay.auto.table) in record {
+    let room : g.used + c.columns_of-first.result.1 ≤ min (length c.lay.new.table) most_fragments = omega (arith, known_room g, c.min-capacity.ensures, c.if-capacity-self.false, c.lay.auto.table) in record {
       sound = ∥∥₁_map g.sound (λ s.
           sound_more (edge_of c.in_ok-s.s) c.columns_of-first.result.1 s (sym c.is_walking-walking.ensures ∙ (passed g b c.in_ok-s.s e w.0 w.1).filling)
           (passed g b c.in_ok-s.s e w.0 w.1).below (lies g b c.in_ok-s.s e w.0 w.1) (ordered g b c.in_ok-s.s e w.0 w.1) room c.lay.ensures);
