@@ -1,5 +1,5 @@
 -- Fragments laid edge by edge: the parts of each column, the edges, and how many there are.
-use Rattle.std.proofs.Common.{◌≡◌, ℕ, zero, suc, ◌+◌, ◌<◌, ◌≤◌, Bool, true, false, cond, ◌&&◌, eqb, leb, ◌⊎◌, List, [], ◌∷◌, ◌++◌, map, length, take, set, sum_by, sym, refl, ap, ◌∙◌, subst, inl, inr, append_assoc, append-nil, add-zero, add_assoc, arith, length-append}
+use Rattle.std.proofs.Common.{◌≡◌, ℕ, zero, suc, ◌+◌, ◌<◌, ◌≤◌, Bool, true, false, cond, ◌&&◌, eqb, leb, ◌⊎◌, List, [], ◌∷◌, ◌++◌, map, length, take, set, sum_by, sym, refl, ap, ◌∙◌, subst, inl, inr, append_assoc, append-nil, add-zero, arith, length-append}
 use Rattle.std.specs.List.{range_with_len, AllByRecursion}
 use Rattle.std.proofs.ByRecursion.{All-map, All-append}
 use Rattle.std.proofs.lemmas.List.FromFn.{map-range_with_len_more, length-map-range_with_len}
@@ -14,17 +14,14 @@ use Rattle.grid.specs.declared.fragment.Fragment.{Fragment}
 use Rattle.grid.specs.Tables.{Content, content, contents, listed, edges_in, laid_in, laid_one, laid}
 
 -- ---- one more fragment
-pub laid_more : (qs entry : List Fragment) (q : Fragment) (used k a : ℕ) (f : ℕ → Content) → used + k < length qs → content q ≡ f (a + k)
-    → contents (take (used + k) qs) ≡ contents (take used entry) ++ map f (range_with_len a k)
-    → contents (take (used + (k + 1)) (set qs (used + k) q)) ≡ contents (take used entry) ++ map f (range_with_len a (k + 1))
-laid_more qs entry q used k a f h e i =
-    ap (λ (n : ℕ). contents (take n (set qs (used + k) q))) (sym (add_assoc used k 1))
-    ∙ ap contents (take_more_set qs (used + k) q h)
-    ∙ map_push content (take (used + k) qs) q
+pub laid_more : (qs : List Fragment) (q : Fragment) (k a : ℕ) (f : ℕ → Content) → k < length qs → content q ≡ f (a + k) → contents (take k qs) ≡ map f (range_with_len a k)
+    → contents (take (k + 1) (set qs k q)) ≡ map f (range_with_len a (k + 1))
+laid_more qs q k a f h e i =
+    ap contents (take_more_set qs k q h)
+    ∙ map_push content (take k qs) q
     ∙ ap (λ (ms : List Content). ms ++ content q ∷ []) i
-    ∙ ap (λ (m : Content). (contents (take used entry) ++ map f (range_with_len a k)) ++ m ∷ []) e
-    ∙ append_assoc (contents (take used entry)) (map f (range_with_len a k)) (f (a + k) ∷ [])
-    ∙ ap (λ (ms : List Content). contents (take used entry) ++ ms) (sym (map-range_with_len_more f a k (a + k) refl))
+    ∙ ap (λ (m : Content). map f (range_with_len a k) ++ m ∷ []) e
+    ∙ sym (map-range_with_len_more f a k (a + k) refl)
 
 -- ---- the parts of a column
 listed_append : (c : ℕ) (ms ns : List Content) → listed c (ms ++ ns) ≡ listed c ms ++ listed c ns

@@ -1,84 +1,67 @@
 //! Laying the fragments of an edge into the table.
-ghost use Rattle.std.specs.Prelude.{◌≡◌, suc, ◌+◌, ◌-◌, ◌<◌, ◌≤◌, ◌++◌, length, take, ◌≤ℤ◌};
+ghost use Rattle.std.specs.Prelude.{◌≡◌, ◌<◌, ◌≤◌, length, ◌≤ℤ◌};
 ghost use Rattle.plane.specs.Models.{edge_of};
-ghost use Rattle.grid.specs.Rectangles.{first_column, last_column, fragments};
-ghost use Rattle.grid.specs.Models.{layout_of, HasColumn};
+ghost use Rattle.grid.specs.Rectangles.{last_column, fragments};
+ghost use Rattle.grid.specs.Models.{layout_of};
 ghost use Rattle.grid.specs.Tables.{content, contents, laid_in, laid_one};
 
 use crate::fragment::Fragment;
 use crate::grid_layout::GridLayout;
-use crate::rectangle::rectangle;
+use crate::laid_edge::LaidEdge;
 use plane::x_segment::XSegment;
 
-/// The last column of an edge: the one that its second x ends, or that a vertical stands in.
-fn last_of(layout: GridLayout, s: XSegment, first: usize) -> usize
-    requires begins { (layout_of layout).left ≤ℤ s.a.x }
-    requires first_value { first ≡ first_column (layout_of layout) (edge_of s) }
-    ensures { result ≡ last_column (layout_of layout) (edge_of s) }
-{
-    if s.a.x == s.b.x {
-        first
-    } else {
-        layout.index(s.b.x - 1)
+impl LaidEdge {
+    /// The edge over columns that it begins and ends in.
+    pub(crate) fn new(layout: GridLayout, s: XSegment) -> LaidEdge
+        requires begins { (layout_of layout).left ≤ℤ s.a.x }
+        requires few { last_column (layout_of layout) (edge_of s) < 128 }
+        ensures over { result.layout ≡ layout }
+        ensures edge { result.s ≡ s }
+    {
+        let first = layout.index(s.a.x);
+        // a vertical stands in the column of its x, and else the second x ends a column
+        let last = if s.a.x == s.b.x {
+            first
+        } else {
+            layout.index(s.b.x - 1)
+        };
+        LaidEdge {
+            layout,
+            s,
+            first,
+            last,
+        }
     }
-}
 
-/// The first column of an edge, and how many it has.
-pub(crate) fn columns_of(layout: GridLayout, s: XSegment) -> (usize, usize)
-    requires begins { (layout_of layout).left ≤ℤ s.a.x }
-    requires few { last_column (layout_of layout) (edge_of s) < 128 }
-    ensures starts { result.0 ≡ first_column (layout_of layout) (edge_of s) }
-    ensures ends { result.0 + result.1 ≡ suc (last_column (layout_of layout) (edge_of s)) }
-    ensures some { 0 < result.1 }
-{
-    let first = layout.index(s.a.x);
-    let last = last_of(layout, s, first);
-    (first, last + 1 - first)
-}
-
-/// The fragment of an edge in a column.
-fn fragment_in(
-    layout: GridLayout,
-    index: usize,
-    s: XSegment,
-    column: usize,
-    first: usize,
-    last: usize,
-) -> Fragment
-    requires has_column { HasColumn (layout_of layout) (edge_of s) column }
-    requires first_value { first ≡ first_column (layout_of layout) (edge_of s) }
-    requires last_value { last ≡ last_column (layout_of layout) (edge_of s) }
-    ensures { content result ≡ laid_in (layout_of layout) index (edge_of s) column }
-{
-    Fragment {
-        index,
-        x_segment: s,
-        column,
-        rect: rectangle(layout, s, column, first, last),
-        next: None,
+    /// How many columns it has.
+    pub(crate) fn count(self) -> usize
+        ensures { result ≡ fragments (layout_of self.layout) (edge_of self.s) }
+    {
+        self.last + 1 - self.first
     }
-}
 
-/// Writes the fragments of an edge, one for each of `count` columns from `first` on, behind the `used` ones.
-pub(crate) fn lay(
-    table: &mut [Fragment],
-    used: usize,
-    layout: GridLayout,
-    index: usize,
-    s: XSegment,
-    first: usize,
-    count: usize,
-)
-    requires begins { (layout_of layout).left ≤ℤ s.a.x }
-    requires starts { first ≡ first_column (layout_of layout) (edge_of s) }
-    requires ends { first + count ≡ suc (last_column (layout_of layout) (edge_of s)) }
-    requires few { last_column (layout_of layout) (edge_of s) < 128 }
-    requires room { used + count ≤ length table.old }
-    requires some { 0 < count }
-    ensures { contents (take (used + count) table.new) ≡ contents (take used table.old) ++ laid_one (layout_of layout) index (edge_of s) }
-{
-    let last = first + count - 1;
-    for k in 0..count {
-        table[used + k] = fragment_in(layout, index, s, first + k, first, last);
+    /// Its fragment in a column.
+    fn fragment(self, index: usize, column: usize) -> Fragment
+        requires after { self.first ≤ column }
+        requires until { column ≤ self.last }
+        ensures { content result ≡ laid_in (layout_of self.layout) index (edge_of self.s) column }
+    {
+        Fragment {
+            index,
+            x_segment: self.s,
+            column,
+            rect: self.rectangle(column),
+            next: None,
+        }
+    }
+
+    /// Writes its fragments, one for each column.
+    pub(crate) fn lay(self, index: usize, places: &mut [Fragment])
+        requires { length places.old ≡ fragments (layout_of self.layout) (edge_of self.s) }
+        ensures { contents places.new ≡ laid_one (layout_of self.layout) index (edge_of self.s) }
+    {
+        for (k, place) in places.iter_mut().enumerate() {
+            *place = self.fragment(index, self.first + k);
+        }
     }
 }

@@ -5,6 +5,7 @@ pub mod cursor;
 pub mod fragment;
 pub mod fragment_buffer;
 pub mod grid_layout;
+mod laid_edge;
 mod laying;
 mod linked_table;
 mod linking;

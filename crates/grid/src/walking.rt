@@ -135,19 +135,20 @@ impl LinkedTable<'_> {
     {
         let mut at = from;
         loop {
-            let (Some(first), Some(second)) = (at.first, at.second) else {
-                at = self.advance(stage, at)?;
-                continue;
-            };
-            let p = self.table[first];
-            let q = self.table[second];
-            at.second = q.next;
-            if passes(stage, p, q) {
-                return Some(Found {
-                    at,
-                    pair: in_order(p.index, q.index),
-                });
+            if let Some(first) = at.first {
+                let p = self.table[first];
+                while let Some(second) = at.second {
+                    let q = self.table[second];
+                    at.second = q.next;
+                    if passes(stage, p, q) {
+                        return Some(Found {
+                            at,
+                            pair: in_order(p.index, q.index),
+                        });
+                    }
+                }
             }
+            at = self.advance(stage, at)?;
         }
     }
 }

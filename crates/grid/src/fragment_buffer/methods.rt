@@ -11,7 +11,7 @@ use crate::cursor::{Step, WalkState};
 use crate::fragment::Fragment;
 use crate::fragment_buffer::FragmentBuffer;
 use crate::grid_layout::GridLayout;
-use crate::laying::{columns_of, lay};
+use crate::laid_edge::LaidEdge;
 use crate::linked_table::LinkedTable;
 use crate::linking::{COLUMNS, MOST_FRAGMENTS, link};
 use finder::checking::{announced_edges, checked};
@@ -67,7 +67,8 @@ impl<'a> Finder for FragmentBuffer<'a> {
     fn show(&mut self, a: PlainPoint, b: PlainPoint) -> Result<(), Fault> {
         let walking = is_walking(self.state);
         let s = checked(walking, self.announced, self.shown, self.extent, a, b)?;
-        let (first, count) = columns_of(self.layout, s);
+        let laid = LaidEdge::new(self.layout, s);
+        let count = laid.count();
         let capacity = self.fragments.len().min(MOST_FRAGMENTS);
         if capacity - self.used < count {
             return Err(Fault::FinderFull(self.shown));
@@ -76,11 +77,11 @@ impl<'a> Finder for FragmentBuffer<'a> {
             fragments,
             used,
             shown,
-            layout,
             ..
         } = self;
-        lay(fragments, *used, *layout, *shown, s, first, count);
-        *used += count;
+        let end = *used + count;
+        laid.lay(*shown, &mut fragments[*used..end]);
+        *used = end;
         *shown += 1;
         Ok(())
     }

@@ -1,4 +1,7 @@
-use Rattle.std.proofs.Common.{◌≡◌, ℕ, suc, ◌+◌, ◌-◌, ◌<◌, ◌≤◌, min, Bool, false, List, [], ◌∷◌, ◌++◌, length, take, ◌≤ℤ◌, None, Err, Option, sym, ap, ◌∙◌, subst, arith}
+use Rattle.std.proofs.Common.{◌≡◌, ℕ, ◌+◌, ◌-◌, ◌<◌, ◌≤◌, min, Bool, false, List, [], ◌∷◌, ◌++◌, length, take, drop, ◌≤ℤ◌, None, Err, Option, sym, ap, ◌∙◌, subst, arith, length-take, length-drop}
+use borrow.Rule.Slice.PartMut.{put_mid, same_len_mid}
+use Rattle.std.proofs.lemmas.Slice.{take-put_mid}
+use Rattle.std.proofs.lemmas.List.{map-append}
 use mathlib.Core.Logic.{∥∥₁_map}
 use Rattle.std.proofs.lemmas.Result.{err_from_is_err_and}
 use Rattle.plane.specs.Edges.{Edge}
@@ -13,8 +16,10 @@ use Rattle.grid.specs.Rectangles.{first_column, last_column, fragments}
 use Rattle.grid.specs.Grid.{grid_need}
 use Rattle.grid.specs.Meanings.{grid_meaning}
 use Rattle.grid.specs.Models.{layout_of}
-use Rattle.grid.specs.Tables.{Lies, contents, edges_in, most_fragments, coming_pairs, walking?}
+use Rattle.grid.specs.Tables.{Lies, content, contents, edges_in, laid_one, most_fragments, coming_pairs, walking?}
 use Rattle.grid.specs.declared.fragment.Fragment.{Fragment}
+use Rattle.grid.specs.declared.grid_layout.GridLayout.{GridLayout}
+use Rattle.grid.specs.declared.laid_edge.LaidEdge.{LaidEdge}
 use Rattle.grid.specs.declared.fragment_buffer.FragmentBuffer.{FragmentBuffer}
 use Rattle.grid.proofs.Placing.{columns_ordered, last_few, lies_by}
 use Rattle.finder.proofs.Refusals.{Passed, early_passed, refusal_early, refusal_full, refusal_none}
@@ -46,17 +51,21 @@ module _ (g : FragmentBuffer) (b : Bool) (s : XSegment) (e : Edge) (h : early_re
   ordered = columns_ordered (layout_of g.layout) (edge_of s) lies.proper begins
 
   -- the need with the edge
-  needs_more : (i k : ℕ) → i ≡ first_column (layout_of g.layout) (edge_of s) → i + k ≡ suc (last_column (layout_of g.layout) (edge_of s))
-      → grid_need (box_of g.extent) g.announced ((grid_meaning g).shown ++ e ∷ []) ≡ g.used + k
-  needs_more i k f l =
+  needs_more : (k : ℕ) → k ≡ fragments (layout_of g.layout) (edge_of s) → grid_need (box_of g.extent) g.announced ((grid_meaning g).shown ++ e ∷ []) ≡ g.used + k
+  needs_more k f =
       need_push (box_of g.extent) g.announced (grid_meaning g).shown e
       ∙ ap (λ (n : ℕ). n + fragments (layout (box_of g.extent) g.announced) e) (known_need g)
       ∙ ap (λ (x : Edge). g.used + fragments (layout (box_of g.extent) g.announced) x) (sym is)
       ∙ ap (λ (l : Layout). g.used + fragments l (edge_of s)) (sym (known_layout g))
-      ∙ ap (λ (n : ℕ). g.used + n) (count (first_column (layout_of g.layout) (edge_of s)) (last_column (layout_of g.layout) (edge_of s)) f l)
-    where
-      count : (m n : ℕ) → i ≡ m → i + k ≡ suc n → suc n - m ≡ k
-      count m n f l = omega arith
+      ∙ ap (λ (n : ℕ). g.used + n) (sym f)
+
+-- the edge over the columns is the edge
+module _ (t : LaidEdge) (g : GridLayout) (s : XSegment) (over : t.layout ≡ g) (same : t.s ≡ s) where
+  fragments_of : fragments (layout_of t.layout) (edge_of t.s) ≡ fragments (layout_of g) (edge_of s)
+  fragments_of = ap (λ (g : GridLayout). fragments (layout_of g) (edge_of t.s)) over ∙ ap (λ (s : XSegment). fragments (layout_of g) (edge_of s)) same
+
+  laid_of : (i : ℕ) → laid_one (layout_of t.layout) i (edge_of t.s) ≡ laid_one (layout_of g) i (edge_of s)
+  laid_of i = ap (λ (g : GridLayout). laid_one (layout_of g) i (edge_of t.s)) over ∙ ap (λ (s : XSegment). laid_one (layout_of g) i (edge_of s)) same
 
 -- the meaning with one more edge
 shown_after : (g : FragmentBuffer) (e : Edge) (table : List Fragment) (used : ℕ) → edges_in (layout_of g.layout) (contents (take used table)) ≡ (grid_meaning g).shown ++ e ∷ []
@@ -81,8 +90,8 @@ returns-in_err-s c =
     let r = refusal_early grid_need (grid_meaning g) e _ (at_shown g c.is_walking-walking.result e _ c.is_walking-walking.ensures c.in_err-s.ensures) in
     record { answers = p.1 ∙ ap Err p.2 ∙ sym (ap show_answer r); leaves = sym (ap (λ x. show_after x e (grid_meaning g)) r) }
 
-pub columns_of-first-requires : goal.columns_of-first-requires
-columns_of-first-requires c =
+pub new-laid-requires : goal.new-laid-requires
+new-laid-requires c =
     let g = c.args.self.now in
     let e : Edge = record { a = plain_point c.args.a; b = plain_point c.args.b } in
     let w = c.in_ok-s.ensures in
@@ -96,23 +105,29 @@ returns-then-capacity-self c =
     let g = c.args.self.now in
     let e : Edge = record { a = plain_point c.args.a; b = plain_point c.args.b } in
     let w = c.in_ok-s.ensures in
-    let n = needs_more g c.is_walking-walking.result c.in_ok-s.s e w.0 w.1 c.columns_of-first.result.0 c.columns_of-first.result.1 c.columns_of-first.ensures.starts c.columns_of-first.ensures.ends in
+    let k = c.count-count.ensures ∙ fragments_of c.new-laid.result g.layout c.in_ok-s.s c.new-laid.ensures.over c.new-laid.ensures.edge in
+    let n = needs_more g c.is_walking-walking.result c.in_ok-s.s e w.0 w.1 c.count-count.result k in
     let r = refusal_full grid_need (grid_meaning g) e (at_shown g c.is_walking-walking.result e None c.is_walking-walking.ensures w.0) (omega (arith, n, known_room g, c.min-capacity.ensures, c.if-capacity-self.true)) in
     record { answers = sym (ap show_answer r ∙ ap (λ k. Err (FinderFull k)) (known_shown g)); leaves = sym (ap (λ x. show_after x e (grid_meaning g)) r) }
+
+-- ---- the places behind those in use
+module _ (used count : ℕ) (table : List Fragment) (room : used + count ≤ length table) where
+  part_long : length (take (used + count - used) (drop used table)) ≡ count
+  part_long = omega (arith, length-take (used + count - used) (drop used table), length-drop used table)
+
+  module _ (places : List Fragment) (long : length places ≡ length (take (used + count - used) (drop used table))) where
+    same_long : length (put_mid used (used + count - used) table places) ≡ length table
+    same_long = same_len_mid used (used + count - used) table places long
+
+    laid_behind : contents (take (used + count) (put_mid used (used + count - used) table places)) ≡ contents (take used table) ++ contents places
+    laid_behind =
+        ap contents (take-put_mid used (used + count - used) table places (used + count) (omega (arith, long, part_long)) (omega (arith, room)))
+        ∙ map-append content (take used table) places
 
 pub lay-requires : goal.lay-requires
 lay-requires c =
     let g = c.args.self.now in
-    let e : Edge = record { a = plain_point c.args.a; b = plain_point c.args.b } in
-    let w = c.in_ok-s.ensures in
-    record {
-      begins = begins g c.is_walking-walking.result c.in_ok-s.s e w.0 w.1;
-      starts = c.columns_of-first.ensures.starts;
-      ends = c.columns_of-first.ensures.ends;
-      few = few g c.is_walking-walking.result c.in_ok-s.s e w.0 w.1;
-      room = omega (arith, known_room g, c.min-capacity.ensures, c.if-capacity-self.false);
-      some = c.columns_of-first.ensures.some;
-    }
+    part_long g.used c.count-count.result g.fragments.now (omega (arith, known_room g, c.min-capacity.ensures, c.if-capacity-self.false)) ∙ c.count-count.ensures
 
 pub invariant_of-self : goal.invariant_of-self
 invariant_of-self c =
@@ -120,10 +135,17 @@ invariant_of-self c =
     let e : Edge = record { a = plain_point c.args.a; b = plain_point c.args.b } in
     let w = c.in_ok-s.ensures in
     let b = c.is_walking-walking.result in
-    let room : g.used + c.columns_of-first.result.1 ≤ min (length c.lay.new.table) most_fragments = omega (arith, known_room g, c.min-capacity.ensures, c.if-capacity-self.false, c.lay.auto.table) in record {
-      sound = ∥∥₁_map g.sound (λ s.
-          sound_more (edge_of c.in_ok-s.s) c.columns_of-first.result.1 s (sym c.is_walking-walking.ensures ∙ (passed g b c.in_ok-s.s e w.0 w.1).filling)
-          (passed g b c.in_ok-s.s e w.0 w.1).below (lies g b c.in_ok-s.s e w.0 w.1) (ordered g b c.in_ok-s.s e w.0 w.1) room c.lay.ensures);
+    let s = c.in_ok-s.s in
+    let k = c.count-count.result in
+    let room : g.used + k ≤ min (length g.fragments.now) most_fragments = omega (arith, known_room g, c.min-capacity.ensures, c.if-capacity-self.false) in
+    let few : g.used + k ≤ length g.fragments.now = omega arith in
+    let behind = laid_behind g.used k g.fragments.now few c.lay.new.places c.lay.auto.places in
+    let long = same_long g.used k g.fragments.now few c.lay.new.places c.lay.auto.places in
+    let laid = behind ∙ ap (λ ms. contents (take g.used g.fragments.now) ++ ms) (c.lay.ensures ∙ laid_of c.new-laid.result g.layout s c.new-laid.ensures.over c.new-laid.ensures.edge g.shown) in
+    record {
+      sound = ∥∥₁_map g.sound (λ t.
+          sound_more (edge_of s) k t (sym c.is_walking-walking.ensures ∙ (passed g b s e w.0 w.1).filling)
+          (passed g b s e w.0 w.1).below (lies g b s e w.0 w.1) (ordered g b s e w.0 w.1) (omega (arith, room, long)) laid);
     }
 
 pub returns : goal.returns
@@ -132,12 +154,16 @@ returns c =
     let e : Edge = record { a = plain_point c.args.a; b = plain_point c.args.b } in
     let w = c.in_ok-s.ensures in
     let b = c.is_walking-walking.result in
-    let n = needs_more g b c.in_ok-s.s e w.0 w.1 c.columns_of-first.result.0 c.columns_of-first.result.1 c.columns_of-first.ensures.starts c.columns_of-first.ensures.ends in
+    let s = c.in_ok-s.s in
+    let k = c.count-count.result in
+    let few : g.used + k ≤ length g.fragments.now = omega (arith, known_room g, c.min-capacity.ensures, c.if-capacity-self.false) in
+    let behind = laid_behind g.used k g.fragments.now few c.lay.new.places c.lay.auto.places in
+    let laid = behind ∙ ap (λ ms. contents (take g.used g.fragments.now) ++ ms) (c.lay.ensures ∙ laid_of c.new-laid.result g.layout s c.new-laid.ensures.over c.new-laid.ensures.edge g.shown) in
+    let n = needs_more g b s e w.0 w.1 k (c.count-count.ensures ∙ fragments_of c.new-laid.result g.layout s c.new-laid.ensures.over c.new-laid.ensures.edge) in
     let r = refusal_none grid_need (grid_meaning g) e (at_shown g b e None c.is_walking-walking.ensures w.0) (omega (arith, n, known_room g, c.min-capacity.ensures, c.if-capacity-self.false)) in
-    let p = sym c.is_walking-walking.ensures ∙ (passed g b c.in_ok-s.s e w.0 w.1).filling in
-    let shown = edges_more (layout_of g.layout) (contents (take g.used g.fragments.now)) (contents (take (g.used + c.columns_of-first.result.1) c.lay.new.table)) g.shown (edge_of c.in_ok-s.s) (ordered g b c.in_ok-s.s e w.0 w.1) c.lay.ensures
-    ∙ ap (λ (x : Edge). (grid_meaning g).shown ++ x ∷ []) w.1 in
+    let p = sym c.is_walking-walking.ensures ∙ (passed g b s e w.0 w.1).filling in
+    let shown = edges_more (layout_of g.layout) (contents (take g.used g.fragments.now)) _ g.shown (edge_of s) (ordered g b s e w.0 w.1) laid ∙ ap (λ (x : Edge). (grid_meaning g).shown ++ x ∷ []) w.1 in
     record {
       answers = sym (ap show_answer r);
-      leaves = shown_after g e c.lay.new.table (g.used + c.columns_of-first.result.1) shown p c.lay.auto.table ∙ sym (ap (λ x. show_after x e (grid_meaning g)) r);
+      leaves = shown_after g e _ (g.used + k) shown p (same_long g.used k g.fragments.now few c.lay.new.places c.lay.auto.places) ∙ sym (ap (λ x. show_after x e (grid_meaning g)) r);
     }
