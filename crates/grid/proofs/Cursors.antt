@@ -125,9 +125,6 @@ module _ (qs : List Fragment) (heads : List (Option ℕ)) (w : Linked qs heads) 
       let k : i < length qs = omega (arith, size, n.0) in
       subst (λ (b : ℕ). Leads (contents qs) b (suc i) (get_or qs i d).next) (sym (ap (λ (m : Content). m.column) (content_at qs i d k)) ∙ n.1) (w.goes_on i d k)
 
-  pub head_named : (stage : Stage) (c : ℕ) → c < limit stage → Names (contents qs) (first_of stage c) (get_or heads (first_of stage c) None)
-  head_named stage c k = (w.starts (first_of stage c) (first_few stage c k)).inside
-
   pub partnered_columns : (l : Layout) (c i : ℕ) (d : Fragment) → Names (contents qs) c (Some i) → Partnered l Columns (contents qs) c i (get_or qs i d).next
   partnered_columns l c i d n = let u = link_of c i d n in record { partners = leads_same u; inside = u.inside }
 

@@ -13,5 +13,4 @@ pub mod Laid
 pub mod Steps
 pub mod Placing
 pub mod Sounds
-pub mod Rooms
 pub mod Worked

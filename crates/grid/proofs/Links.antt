@@ -15,10 +15,6 @@ pub listed_skip : (ms : List Content) (c k : ℕ) → k < length ms → ((get_or
 unfolding listed
 listed_skip ms c k h n = ap (listed c) (drop-cons ms k blank_content h) ∙ cond-false (eqb (get_or ms k blank_content).column c) _ _ (ne_eqb _ c n)
 
-pub listed_past : (ms : List Content) (c k : ℕ) → length ms ≤ k → listed c (drop k ms) ≡ []
-unfolding listed
-listed_past ms c k h = ap (listed c) (drop_all k ms h)
-
 -- where a link leads is in the table, or at its end
 pub named_below : (ms : List Content) (c : ℕ) (j : Option ℕ) → Names ms c j → place (length ms) j ≤ length ms
 named_below ms c None h = omega arith

@@ -50,9 +50,6 @@ narrow z h = omega (arith, ints)
 pub apart_le : (a b : ℤ) → InRange a → InRange b → nat_abs (b -ℤ a) ≤ 2 ^ 20
 apart_le a b h k = omega (arith, ints)
 
-pub run_le : (s : XSegment) → run (edge_of s) ≤ 2 ^ 20
-run_le s = apart_le s.a.x s.b.x s.a.wide s.b.wide
-
 pub rise_le : (s : XSegment) → rise (edge_of s) ≤ 2 ^ 20
 rise_le s = apart_le s.a.y s.b.y s.a.high s.b.high
 
