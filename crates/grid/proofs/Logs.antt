@@ -1,5 +1,5 @@
 -- The binary logarithm, rounded down.
-use Rattle.std.proofs.Common.{◌≡◌, ℕ, zero, suc, ◌^◌, ◌<◌, ◌≤◌, leb, inl, inr, arith, pow_pos, pow_mono}
+use Rattle.std.proofs.Common.{◌≡◌, ℕ, zero, suc, ◌*◌, ◌^◌, ◌<◌, ◌≤◌, leb, inl, inr, arith, pow-suc, pow_pos, pow_mono}
 use Rattle.std.proofs.lemmas.Bool.{cond_both, leb-true, leb-false, cases_lt}
 use Rattle.grid.specs.Layouts.{log_to, ilog2}
 
@@ -31,8 +31,8 @@ ilog2_below n m h l = elim (cases_lt (ilog2 n) m) [ inl i ↦ i | inr i ↦ absu
     over j = omega (arith, ilog2_le n h)
 
 -- no other number is the logarithm
-pub ilog2_is : (n j : ℕ) → n < 2 ^ 64 → 2 ^ j ≤ n → n < 2 ^ suc j → ilog2 n ≡ j
-ilog2_is n j h k m = same (ilog2_below n (suc j) some m) (elim (cases_lt (ilog2 n) j) [ inl i ↦ absurd (over (pow_mono i)) | inr i ↦ i ])
+pub ilog2_is : (n j : ℕ) → n < 2 ^ 64 → 2 ^ j ≤ n → n < 2 * 2 ^ j → j ≡ ilog2 n
+ilog2_is n j h k m = same (ilog2_below n (suc j) some (omega (arith, pow-suc 2 j))) (elim (cases_lt (ilog2 n) j) [ inl i ↦ absurd (over (pow_mono i)) | inr i ↦ i ])
   where
     some : 0 < n
     some = omega (arith, pow_pos j)
@@ -40,5 +40,5 @@ ilog2_is n j h k m = same (ilog2_below n (suc j) some m) (elim (cases_lt (ilog2 
     over : 2 ^ suc (ilog2 n) ≤ 2 ^ j → ⊥
     over i = omega (arith, ilog2_lt n h)
 
-    same : {i : ℕ} → i < suc j → j ≤ i → i ≡ j
+    same : {i : ℕ} → i < suc j → j ≤ i → j ≡ i
     same h k = omega arith

@@ -16,6 +16,7 @@ pub struct Found {
 }
 
 /// Pairs come from the columns first, then from the borders.
+// Stays: a trait and two unit structs would state the clauses of four functions in the trait, and the functions twice, in place of four matches of two lines; the definitions would still go by cases.
 #[derive(Clone, Copy)]
 pub enum Stage {
     Columns,

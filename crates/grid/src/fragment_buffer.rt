@@ -6,6 +6,7 @@ ghost use Rattle.grid.specs.Tables.{Sound};
 use crate::cursor::WalkState;
 use crate::fragment::Fragment;
 use crate::grid_layout::GridLayout;
+use crate::linking::COLUMNS;
 use finder::int_rect::IntRect;
 
 pub mod methods;
@@ -18,7 +19,7 @@ pub struct FragmentBuffer<'a> {
     announced: usize,
     extent: IntRect,
     layout: GridLayout,
-    heads: [Option<usize>; 128],
+    heads: [Option<usize>; COLUMNS],
     state: WalkState,
     ghost sound: { ∥ Sound fragments.now used shown announced (box_of extent) (layout_of layout) heads state ∥₁ },
 }

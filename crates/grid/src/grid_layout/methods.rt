@@ -1,7 +1,7 @@
 //! Laying out columns; the column of an x, and the x of a border.
-ghost use Rattle.std.specs.Prelude.{◌≡◌, ◌^◌, ◌<◌, ◌≤◌, ◌≤ℤ◌};
+ghost use Rattle.std.specs.Prelude.{◌≡◌, ◌≤◌, ◌≤ℤ◌};
 ghost use Rattle.finder.specs.Finders.{box_of};
-ghost use Rattle.grid.specs.Layouts.{ilog2, layout, column, border};
+ghost use Rattle.grid.specs.Layouts.{layout, column, border};
 ghost use Rattle.grid.specs.Models.{layout_of};
 
 use crate::grid_layout::GridLayout;
@@ -9,15 +9,6 @@ use finder::int_rect::IntRect;
 
 /// The power of a single column, which is wider than any box.
 const SINGLE: u32 = 32;
-
-/// The binary logarithm, rounded down.
-fn log2(n: u64) -> u32
-    requires { 0 < n }
-    ensures value { result ≡ ilog2 n }
-    ensures narrow { n < 2 ^ 32 → result < 32 }
-{
-    63 - n.leading_zeros()
-}
 
 impl GridLayout {
     pub fn new(extent: IntRect, number: usize) -> GridLayout
@@ -30,12 +21,11 @@ impl GridLayout {
                 power: SINGLE,
             };
         }
-        let log = log2(width as u64);
-        let half = log2(number as u64) / 2;
-        let power = if log > half { log - half } else { 1 };
+        let log = (width as u64).ilog2();
+        let half = number.ilog2() / 2;
         GridLayout {
             min_x: extent.min_x,
-            power,
+            power: log.saturating_sub(half).max(1),
         }
     }
 
@@ -44,7 +34,7 @@ impl GridLayout {
         requires { self.min_x ≤ℤ x }
         ensures { result ≡ column (layout_of self) x }
     {
-        ((x as i64 - self.min_x as i64) as u64 >> self.power) as usize
+        (u64::from(x.abs_diff(self.min_x)) >> self.power) as usize
     }
 
     /// The border where a column begins.

@@ -13,12 +13,6 @@ use Rattle.grid.proofs.fragment_buffer.methods.walk.Goals as goal
 part_is : (used : ℕ) (table part behind : List Fragment) → used ≤ min (length table) most_fragments → length part ≡ length (take (used - 0) table) → take (used - 0) (part ++ behind) ≡ part
 part_is used table part behind h e = take_at part behind (used - 0) (omega (arith, length-take (used - 0) table))
 
-pub link-requires : goal.link-requires
-link-requires c =
-    let fs = c.args.fragments.now in
-    let n : length (take c.args.used fs) ≤ 524288 = omega (arith, length-take c.args.used fs, c.requires.room) in
-    rw sub-zero (record { short = n; narrow = c.requires.narrow })
-
 pub returns-in-Filling : goal.returns-in-Filling
 returns-in-Filling c =
     let used = c.args.used in

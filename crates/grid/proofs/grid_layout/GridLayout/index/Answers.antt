@@ -7,4 +7,4 @@ pub returns : goal.returns
 unfolding column
 returns c =
     let m : SFits w32 c.args.self.min_x = search rules in
-    ap (λ (n : ℕ). n / 2 ^ c.args.self.power) (omega (arith, ints))
+    ap (λ (n : ℕ). n / 2 ^ c.args.self.power) (omega (arith, ints, c.from.ensures, c.abs_diff.ensures))

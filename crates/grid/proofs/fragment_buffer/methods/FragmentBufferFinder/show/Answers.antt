@@ -16,7 +16,7 @@ use Rattle.grid.specs.Rectangles.{first_column, last_column, fragments}
 use Rattle.grid.specs.Grid.{grid_need}
 use Rattle.grid.specs.Meanings.{grid_meaning}
 use Rattle.grid.specs.Models.{layout_of}
-use Rattle.grid.specs.Tables.{Lies, content, contents, edges_in, laid_one, most_fragments, coming_pairs, walking?}
+use Rattle.grid.specs.Tables.{Lies, Content, content, contents, edges_in, laid_one, most_fragments, coming_pairs, walking?}
 use Rattle.grid.specs.declared.fragment.Fragment.{Fragment}
 use Rattle.grid.specs.declared.grid_layout.GridLayout.{GridLayout}
 use Rattle.grid.specs.declared.laid_edge.LaidEdge.{LaidEdge}
@@ -119,15 +119,10 @@ module _ (used count : ℕ) (table : List Fragment) (room : used + count ≤ len
     same_long : length (put_mid used (used + count - used) table places) ≡ length table
     same_long = same_len_mid used (used + count - used) table places long
 
-    laid_behind : contents (take (used + count) (put_mid used (used + count - used) table places)) ≡ contents (take used table) ++ contents places
-    laid_behind =
+    laid_behind : (ms : List Content) → contents places ≡ ms → contents (take (used + count) (put_mid used (used + count - used) table places)) ≡ contents (take used table) ++ ms
+    laid_behind ms is =
         ap contents (take-put_mid used (used + count - used) table places (used + count) (omega (arith, long, part_long)) (omega (arith, room)))
-        ∙ map-append content (take used table) places
-
-pub lay-requires : goal.lay-requires
-lay-requires c =
-    let g = c.args.self.now in
-    part_long g.used c.count-count.result g.fragments.now (omega (arith, known_room g, c.min-capacity.ensures, c.if-capacity-self.false)) ∙ c.count-count.ensures
+        ∙ map-append content (take used table) places ∙ ap (λ (ns : List Content). contents (take used table) ++ ns) is
 
 pub invariant_of-self : goal.invariant_of-self
 invariant_of-self c =
@@ -139,9 +134,8 @@ invariant_of-self c =
     let k = c.count-count.result in
     let room : g.used + k ≤ min (length g.fragments.now) most_fragments = omega (arith, known_room g, c.min-capacity.ensures, c.if-capacity-self.false) in
     let few : g.used + k ≤ length g.fragments.now = omega arith in
-    let behind = laid_behind g.used k g.fragments.now few c.lay.new.places c.lay.auto.places in
     let long = same_long g.used k g.fragments.now few c.lay.new.places c.lay.auto.places in
-    let laid = behind ∙ ap (λ ms. contents (take g.used g.fragments.now) ++ ms) (c.lay.ensures ∙ laid_of c.new-laid.result g.layout s c.new-laid.ensures.over c.new-laid.ensures.edge g.shown) in
+    let laid = laid_behind g.used k g.fragments.now few c.lay.new.places c.lay.auto.places _ (c.lay.ensures ∙ laid_of c.new-laid.result g.layout s c.new-laid.ensures.over c.new-laid.ensures.edge g.shown) in
     record {
       sound = ∥∥₁_map g.sound (λ t.
           sound_more (edge_of s) k t (sym c.is_walking-walking.ensures ∙ (passed g b s e w.0 w.1).filling)
@@ -157,8 +151,7 @@ returns c =
     let s = c.in_ok-s.s in
     let k = c.count-count.result in
     let few : g.used + k ≤ length g.fragments.now = omega (arith, known_room g, c.min-capacity.ensures, c.if-capacity-self.false) in
-    let behind = laid_behind g.used k g.fragments.now few c.lay.new.places c.lay.auto.places in
-    let laid = behind ∙ ap (λ ms. contents (take g.used g.fragments.now) ++ ms) (c.lay.ensures ∙ laid_of c.new-laid.result g.layout s c.new-laid.ensures.over c.new-laid.ensures.edge g.shown) in
+    let laid = laid_behind g.used k g.fragments.now few c.lay.new.places c.lay.auto.places _ (c.lay.ensures ∙ laid_of c.new-laid.result g.layout s c.new-laid.ensures.over c.new-laid.ensures.edge g.shown) in
     let n = needs_more g b s e w.0 w.1 k (c.count-count.ensures ∙ fragments_of c.new-laid.result g.layout s c.new-laid.ensures.over c.new-laid.ensures.edge) in
     let r = refusal_none grid_need (grid_meaning g) e (at_shown g b e None c.is_walking-walking.ensures w.0) (omega (arith, n, known_room g, c.min-capacity.ensures, c.if-capacity-self.false)) in
     let p = sym c.is_walking-walking.ensures ∙ (passed g b s e w.0 w.1).filling in
