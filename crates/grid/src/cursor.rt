@@ -1,4 +1,6 @@
 //! Where a walk over linked columns stands.
+ghost use Rattle.std.specs.Prelude.{◌≡◌};
+ghost use Rattle.grid.specs.Tables.{walking?};
 
 /// A column, or the border at its right; a fragment if one is left there, and the one that it is to be compared with next.
 #[derive(Clone, Copy)]
@@ -29,6 +31,15 @@ pub enum WalkState {
     Column(Cursor),
     Border(Cursor),
     Done,
+}
+
+impl WalkState {
+    /// Whether a walk has begun.
+    pub(crate) fn is_walking(self) -> bool
+        ensures { result ≡ walking? self }
+    {
+        !matches!(self, WalkState::Filling)
+    }
 }
 
 /// The answer of a call, and the state behind it.

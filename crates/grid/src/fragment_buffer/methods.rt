@@ -3,7 +3,7 @@ ghost use Rattle.std.specs.Prelude.{◌≡◌, ◌≤◌, min, length, take};
 ghost use Rattle.finder.specs.Finders.{unstarted};
 ghost use Rattle.grid.specs.Grid.{grid_need};
 ghost use Rattle.grid.specs.Models.{layout_of};
-ghost use Rattle.grid.specs.Tables.{contents, Narrow, Standing, walking?, Walked};
+ghost use Rattle.grid.specs.Tables.{contents, Narrow, Standing, Walked};
 ghost use Rattle.grid.specs.Worked.{WorkedGrids};
 ghost use Rattle.grid.specs.Meanings.{grid_meaning, grid_walks};
 
@@ -40,13 +40,6 @@ impl<'a> FragmentBuffer<'a> {
     }
 }
 
-/// Whether a walk has begun.
-fn is_walking(state: WalkState) -> bool
-    ensures { result ≡ walking? state }
-{
-    !matches!(state, WalkState::Filling)
-}
-
 impl<'a> Finder for FragmentBuffer<'a> {
     ghost meaning = { grid_meaning };
 
@@ -65,7 +58,7 @@ impl<'a> Finder for FragmentBuffer<'a> {
     }
 
     fn show(&mut self, a: PlainPoint, b: PlainPoint) -> Result<(), Fault> {
-        let walking = is_walking(self.state);
+        let walking = self.state.is_walking();
         let s = checked(walking, self.announced, self.shown, self.extent, a, b)?;
         let laid = LaidEdge::new(self.layout, s);
         let count = laid.count();
@@ -73,30 +66,22 @@ impl<'a> Finder for FragmentBuffer<'a> {
         if capacity - self.used < count {
             return Err(Fault::FinderFull(self.shown));
         }
-        let FragmentBuffer {
-            fragments,
-            used,
-            shown,
-            ..
-        } = self;
-        let end = *used + count;
-        laid.lay(*shown, &mut fragments[*used..end]);
-        *used = end;
-        *shown += 1;
+        let end = self.used + count;
+        laid.lay(self.shown, &mut self.fragments[self.used..end]);
+        self.used = end;
+        self.shown += 1;
         Ok(())
     }
 
     fn next(&mut self) -> Option<(usize, usize)> {
-        let FragmentBuffer {
-            fragments,
-            used,
-            layout,
-            heads,
-            state,
-            ..
-        } = self;
-        let after = walk(fragments, *used, *layout, heads, *state);
-        *state = after.state;
+        let after = walk(
+            self.fragments,
+            self.used,
+            self.layout,
+            &mut self.heads,
+            self.state,
+        );
+        self.state = after.state;
         after.pair
     }
 }
@@ -115,16 +100,16 @@ fn walk(
     ensures { Walked used (layout_of layout) state fragments.old fragments.new heads.new result }
 {
     if let WalkState::Filling = state {
-        *heads = link(&mut fragments[0..used]);
+        *heads = link(&mut fragments[..used]);
         let linked = LinkedTable {
-            table: &fragments[0..used],
+            table: &fragments[..used],
             heads,
             layout,
         };
         return linked.step(linked.first_state());
     }
     let linked = LinkedTable {
-        table: &fragments[0..used],
+        table: &fragments[..used],
         heads,
         layout,
     };

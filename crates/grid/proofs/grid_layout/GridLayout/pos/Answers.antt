@@ -4,9 +4,6 @@ use Rattle.grid.specs.Layouts.{border}
 use Rattle.grid.proofs.Columns.{border_fits}
 use Rattle.grid.proofs.grid_layout.GridLayout.pos.Goals as goal
 
-pub overflow_cast-result-3 : goal.overflow_cast-result-3
-overflow_cast-result-3 c = let h = border_fits c.args.index c.args.self.power c.requires c.args.self.narrow in omega (arith, ints)
-
 pub overflow_add-result : goal.overflow_add-result
 overflow_add-result c =
     let m : SFits w32 c.args.self.min_x = search rules in
