@@ -1,8 +1,7 @@
 -- Reading the lines of edges, one after another.
-use Rattle.std.proofs.Common.{◌≡◌, ℕ, suc, ◌+◌, ◌<◌, ◌≤◌, Bool, List, [], ◌∷◌, ◌++◌, length, Ok, Err, Result, sym, refl, ap, ◌∙◌, subst, append_assoc, append-nil, arith}
-use Rattle.std.proofs.lemmas.List.{length_push}
+use Rattle.std.proofs.Common.{◌≡◌, ℕ, suc, ◌+◌, ◌<◌, ◌≤◌, List, [], ◌∷◌, ◌++◌, length, Ok, Err, Result, sym, refl, ap, ◌∙◌, append_assoc, append-nil, arith}
+use Rattle.std.proofs.lemmas.List.{length_push, map_push}
 use Rattle.std.proofs.lemmas.Bool.{cond-true, cond-false, le-leb, lt-leb}
-use Rattle.plane.specs.declared.x_segment.XSegment.{XSegment}
 use Rattle.drawing.specs.declared.drawn_edge.DrawnEdge.{DrawnEdge}
 use Rattle.drawing.specs.declared.reason.Reason.{Reason}
 use Rattle.drawing.specs.declared.reason.Reason.TheVariants.{EdgeForm, TooManyEdges}
@@ -25,73 +24,60 @@ grown_more : (es : List Drawn) (e : Drawn) (said : Result (List Drawn) Bad) → 
 grown_more es e (Ok fs) = ap (λ l. Ok l) (sym (append_assoc es (e ∷ []) fs))
 grown_more es e (Err f) = refl
 
-drawn_push : (ss : List XSegment) (ts : List Bool) (s : XSegment) (t : Bool) → length ts ≡ length ss → drawn (ss ++ s ∷ []) (ts ++ t ∷ []) ≡ drawn ss ts ++ drawn_as s t ∷ []
-drawn_push [] [] s t e = refl
-drawn_push [] (u ∷ ts) s t e = absurd (omega arith)
-drawn_push (r ∷ ss) [] s t e = absurd (omega arith)
-drawn_push (r ∷ ss) (u ∷ ts) s t e = ap (λ l. drawn_as r u ∷ l) (drawn_push ss ts s t (omega arith))
-
 -- the edges read so far, before what the rest says, are what the text says
-pub record Sofar (text : List ℕ) (edges : List XSegment) (turned : List Bool) (rest : List ℕ) : Type 0 where
-  pub same : edges_from 2 (lines text) ≡ grown (drawn edges turned) (edges_from (length edges + 2) (lines rest))
+pub record Sofar (text : List ℕ) (edges : List DrawnEdge) (rest : List ℕ) : Type 0 where
+  pub same : edges_from 2 (lines text) ≡ grown (drawn edges) (edges_from (length edges + 2) (lines rest))
   pub few : length edges ≤ 4096
-  pub paired : length turned ≡ length edges
 
-module _ {text rest : List ℕ} {edges : List XSegment} {turned : List Bool} (old : Sofar text edges turned rest) where
+module _ {text rest : List ℕ} {edges : List DrawnEdge} (old : Sofar text edges rest) where
   module _ (line after : List ℕ) (cut : lines rest ≡ line ∷ lines after) where
     -- what the text says, by what the next line does
     by_next : (said : Result Drawn Reason) → said ≡ edge_line line
-        → edges_from 2 (lines text) ≡ grown (drawn edges turned) (edge_then (length edges + 2) said (edges_from (suc (length edges + 2)) (lines after)))
+        → edges_from 2 (lines text) ≡ grown (drawn edges) (edge_then (length edges + 2) said (edges_from (suc (length edges + 2)) (lines after)))
     by_next said e =
         let n = length edges + 2 in
         old.same
-        ∙ ap (λ l. grown (drawn edges turned) (edges_from n l)) cut
-        ∙ ap (grown (drawn edges turned)) (edges_next n line after)
-        ∙ ap (λ x. grown (drawn edges turned) (edge_then n x (edges_from (suc n) (lines after)))) (sym e)
+        ∙ ap (λ l. grown (drawn edges) (edges_from n l)) cut
+        ∙ ap (grown (drawn edges)) (edges_next n line after)
+        ∙ ap (λ x. grown (drawn edges) (edge_then n x (edges_from (suc n) (lines after)))) (sym e)
 
     -- the line says an edge, and there is room for it
-    one_more : (s : XSegment) (t : Bool) → Ok (drawn_as s t) ≡ edge_line line → length edges < 4096 → Sofar text (edges ++ s ∷ []) (turned ++ t ∷ []) after
-    one_more s t e room =
+    pub one_more : (d : DrawnEdge) → Ok (drawn_as d) ≡ edge_line line → length edges < 4096 → Sofar text (edges ++ d ∷ []) after
+    one_more d e room =
         let n = length edges + 2 in
         let rest_says = edges_from (suc n) (lines after) in
         let low : n ≤ 4097 = omega arith in
-        let number : suc n ≡ length (edges ++ s ∷ []) + 2 = omega (arith, length_push edges s) in
+        let number : suc n ≡ length (edges ++ d ∷ []) + 2 = omega (arith, length_push edges d) in
         record {
           same =
-              by_next (Ok (drawn_as s t)) e
-              ∙ ap (grown (drawn edges turned)) (cond-true _ (before (drawn_as s t) rest_says) (Err (n, TooManyEdges)) (le-leb n 4097 low))
-              ∙ grown_more (drawn edges turned) (drawn_as s t) rest_says
-              ∙ ap (λ es. grown es rest_says) (sym (drawn_push edges turned s t old.paired))
-              ∙ ap (λ k. grown (drawn (edges ++ s ∷ []) (turned ++ t ∷ [])) (edges_from k (lines after))) number;
-          few = omega (arith, length_push edges s);
-          paired = omega (arith, length_push edges s, length_push turned t, old.paired);
+              by_next (Ok (drawn_as d)) e
+              ∙ ap (grown (drawn edges)) (cond-true _ (before (drawn_as d) rest_says) (Err (n, TooManyEdges)) (le-leb n 4097 low))
+              ∙ grown_more (drawn edges) (drawn_as d) rest_says
+              ∙ ap (λ es. grown es rest_says) (sym (map_push drawn_as edges d))
+              ∙ ap (λ k. grown (drawn (edges ++ d ∷ [])) (edges_from k (lines after))) number;
+          few = omega (arith, length_push edges d);
         }
 
-    pub one_pushed : (now : List XSegment) (flags : List Bool) (d : DrawnEdge) → Ok (drawn_as d.edge d.is_turned) ≡ edge_line line → length edges < 4096
-        → now ≡ edges ++ d.edge ∷ [] → flags ≡ turned ++ d.is_turned ∷ [] → Sofar text now flags after
-    one_pushed now flags d e room pushed flagged =
-        subst (λ l. Sofar text l flags after) (sym pushed) (subst (λ l. Sofar text (edges ++ d.edge ∷ []) l after) (sym flagged) (one_more d.edge d.is_turned e room))
-
-    pub full : (d : DrawnEdge) → Ok (drawn_as d.edge d.is_turned) ≡ edge_line line → 4096 ≤ length edges → edges_from 2 (lines text) ≡ Err (length edges + 2, TooManyEdges)
+    pub full : (d : DrawnEdge) → Ok (drawn_as d) ≡ edge_line line → 4096 ≤ length edges → edges_from 2 (lines text) ≡ Err (length edges + 2, TooManyEdges)
     full d e room =
         let n = length edges + 2 in
         let high : 4097 < n = omega arith in
-        by_next (Ok (drawn_as d.edge d.is_turned)) e
-        ∙ ap (grown (drawn edges turned)) (cond-false _ (before (drawn_as d.edge d.is_turned) (edges_from (suc n) (lines after))) (Err (n, TooManyEdges)) (lt-leb n 4097 high))
+        by_next (Ok (drawn_as d)) e
+        ∙ ap (grown (drawn edges)) (cond-false _ (before (drawn_as d) (edges_from (suc n) (lines after))) (Err (n, TooManyEdges)) (lt-leb n 4097 high))
 
     pub refused : (f : Reason) → Err f ≡ edge_line line → edges_from 2 (lines text) ≡ Err (length edges + 2, f)
     refused f e = by_next (Err f) e
 
   -- no line is left
   module _ (cut : lines rest ≡ rest ∷ []) where
-    by_last : (l : List ℕ) → rest ≡ l → edges_from 2 (lines text) ≡ grown (drawn edges turned) (last_line (length edges + 2) l)
-    by_last l is = old.same ∙ ap (λ ls. grown (drawn edges turned) (edges_from (length edges + 2) ls)) (cut ∙ ap (λ x. x ∷ []) is)
+    by_last : (l : List ℕ) → rest ≡ l → edges_from 2 (lines text) ≡ grown (drawn edges) (last_line (length edges + 2) l)
+    by_last l is = old.same ∙ ap (λ ls. grown (drawn edges) (edges_from (length edges + 2) ls)) (cut ∙ ap (λ x. x ∷ []) is)
 
-    pub all_read : length rest ≡ 0 → edges_from 2 (lines text) ≡ Ok (drawn edges turned)
+    pub all_read : length rest ≡ 0 → edges_from 2 (lines text) ≡ Ok (drawn edges)
     all_read none = go rest refl none
       where
-        go : (l : List ℕ) → rest ≡ l → length l ≡ 0 → edges_from 2 (lines text) ≡ Ok (drawn edges turned)
-        go [] is e = by_last [] is ∙ ap (λ l. Ok l) (append-nil (drawn edges turned))
+        go : (l : List ℕ) → rest ≡ l → length l ≡ 0 → edges_from 2 (lines text) ≡ Ok (drawn edges)
+        go [] is e = by_last [] is ∙ ap (λ l. Ok l) (append-nil (drawn edges))
         go (b ∷ bs) is e = absurd (omega arith)
 
     pub cut_off : (length rest ≡ 0 → ⊥) → edges_from 2 (lines text) ≡ Err (length edges + 2, EdgeForm)

@@ -1,6 +1,10 @@
 -- Laws of the fields of a text.
-use Rattle.std.proofs.Common.{◌≡◌, ℕ, zero, suc, ◌<◌, eqb, List, [], ◌∷◌, ◌++◌, length, get_or, take, drop, sym, refl, ap, ◌∙◌, arith}
-use Rattle.std.proofs.lemmas.Bool.{cond-true, cond-false, cond_both, eq-eqb, eqb-true, ne_eqb}
+use Rattle.std.proofs.Common.{◌≡◌, ℕ, zero, suc, ◌+◌, ◌<◌, ◌≤◌, eqb, List, [], ◌∷◌, ◌++◌, length, get_or, take, drop, Some, None, sym, refl, ap, ◌∙◌, add-one, arith}
+use Rattle.std.specs.List.{position, position_or_len}
+use Rattle.std.proofs.lemmas.List.Quantifiers.{position-Some}
+use Rattle.std.proofs.lemmas.List.Sums.{fails_before_first}
+use Rattle.std.proofs.lemmas.Bool.{both_ways, cond-true, cond-false, cond_both, eq-eqb, eqb-true, ne_eqb}
+use Rattle.std.proofs.lemmas.Bool.Decides.{nat_tests}
 use Rattle.drawing.specs.Fields.{onto, fields}
 
 -- none of the first n bytes is m
@@ -23,6 +27,18 @@ pub fields_one : (m : ℕ) (bs : List ℕ) → Free m bs (length bs) → fields 
 fields_one m [] free = refl
 fields_one m (b ∷ bs) free =
     cond-false _ _ _ (ne_eqb b m (free 0 (omega arith))) ∙ ap (onto b) (fields_one m bs (after m b bs (length bs) free))
+
+-- the field before the first mark, by the place that a search for the mark found
+pub fields_found : (m : ℕ) (bs : List ℕ) (i : ℕ) → position (λ b. eqb b m) bs ≡ Some i → (fields m bs ≡ take i bs ∷ fields m (drop (i + 1) bs)) × (i < length bs)
+fields_found m bs i e =
+    let found = position-Some (λ b. eqb b m) bs i 0 e in
+    (rw add-one (fields_at m bs i found.0 (λ k low is. both_ways _ (found.2 k low) (eq-eqb (get_or bs k 0) m is)) (eqb-true _ m found.1)), found.0)
+
+-- the search found none
+pub fields_unfound : (m : ℕ) (bs : List ℕ) → position (λ b. eqb b m) bs ≡ None → fields m bs ≡ bs ∷ []
+fields_unfound m bs e =
+    let last : length bs ≤ position_or_len (λ b. eqb b m) bs = grind (arith, nat_tests) in
+    fields_one m bs (λ k low is. both_ways _ (fails_before_first (λ b. eqb b m) bs k 0 (omega arith)) (eq-eqb (get_or bs k 0) m is))
 
 -- there is a first field
 pub fields_some : (m : ℕ) (bs : List ℕ) → (f : List ℕ) × (fs : List (List ℕ)) × (fields m bs ≡ f ∷ fs)

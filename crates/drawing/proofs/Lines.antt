@@ -1,12 +1,14 @@
 -- Laws of what a line says.
-use Rattle.std.proofs.Common.{◌≡◌, ℕ, true, false, List, [], ◌∷◌, Ok, Err, sym, refl, ap, ◌∙◌, ⊎_elim, arith}
+use Rattle.std.proofs.Common.{◌≡◌, ℕ, true, false, List, [], ◌∷◌, is_ok, Ok, Err, Result, sym, refl, ap, ◌∙◌, ⊎_elim, arith}
 use Rattle.std.specs.Str.{bytes_eq}
 use Rattle.std.proofs.lemmas.Slice.Eq.{bytes_eq-Decides}
 use Rattle.std.proofs.lemmas.Int.{ints}
-use Rattle.std.proofs.lemmas.Bool.{and_from, and_left, and_right, and_parts, cases_Bool, cond-true, cond-false, le-leb, leb-true, or_left, or_right, or_from}
+use Rattle.std.proofs.lemmas.Bool.{and_from, and_left, and_right, and_parts, both_ways, cases_Bool, cond-true, cond-false, le-leb, leb-true, or_left, or_right, or_from}
 use Rattle.plane.specs.Points.{Point, Ranged, before?}
 use Rattle.plane.specs.Edges.{Edge}
-use Rattle.plane.specs.Models.{edge_of, edge_between}
+use Rattle.plane.specs.Models.{MadeEdge, edge_of, edge_between}
+use Rattle.plane.specs.declared.fault.Fault.{Fault}
+use Rattle.plane.specs.declared.x_segment.XSegment.{XSegment}
 use Rattle.drawing.specs.declared.drawn_edge.DrawnEdge.{DrawnEdge}
 use Rattle.drawing.specs.declared.number.NumberFault.TheVariants.{Form}
 use Rattle.drawing.specs.declared.reason.Reason.TheVariants.{HeadForm, CoordinateOutside, EndsEqual}
@@ -55,12 +57,16 @@ second_outside p q none = cond-false _ _ _ (and_right _ _ (ranged_not q none))
 pub not_before_itself : (p : Point) → before? p p ≡ false
 not_before_itself p = grind (arith, ints)
 
+pub ends_same : (p q : Point) (r : Result XSegment Fault) → is_ok r ≡ false → MadeEdge p q r → p ≡ q
+ends_same p q (Ok s) none made = absurd (both_ways true none refl)
+ends_same p q (Err f) none made = made.1
+
 pub ends_equal : (p q : Point) → Ranged p → Ranged q → p ≡ q → edge_from p q ≡ Err EndsEqual
 ends_equal p q in_p in_q e =
     cond-true _ _ _ (and_from _ _ (ranged_is p in_p) (ranged_is q in_q))
     ∙ cond-false _ _ _ (ap (apart? p) (sym e) ∙ or_from _ _ (not_before_itself p) (not_before_itself p))
 
-pub edge_made : (p q : Point) (d : DrawnEdge) → Ranged p → Ranged q → edge_of d.edge ≡ edge_between p q → d.is_turned ≡ before? q p → edge_from p q ≡ Ok (drawn_as d.edge d.is_turned)
+pub edge_made : (p q : Point) (d : DrawnEdge) → Ranged p → Ranged q → edge_of d.edge ≡ edge_between p q → d.is_turned ≡ before? q p → edge_from p q ≡ Ok (drawn_as d)
 edge_made p q d in_p in_q e turned =
     cond-true _ _ _ (and_from _ _ (ranged_is p in_p) (ranged_is q in_q))
     ∙ cond-true _ _ _ apart

@@ -1,5 +1,5 @@
 -- A reading of bytes as a number is the number of that decimal form, and fails where there is none.
-use Rattle.std.proofs.Common.{◌≡◌, ℕ, zero, suc, ◌+◌, ◌^◌, ◌<◌, ◌≤◌, min, true, cond, ltb, List, [], ◌∷◌, length, get_or, ℤ, pos, negsuc, neg_ℤ, Some, None, Ok, Err, decimal, Option, Result, sym, refl, ap, ◌∙◌, ⊎_elim, arith, rules}
+use Rattle.std.proofs.Common.{◌≡◌, ℕ, zero, suc, ◌+◌, ◌^◌, ◌<◌, ◌≤◌, min, true, cond, ltb, List, [], ◌∷◌, length, get_or, ℤ, pos, negsuc, neg_ℤ, Ok, Err, decimal, Result, sym, refl, ap, ◌∙◌, subst, ⊎_elim, arith, rules}
 use lib.Signed.{mag}
 use Rattle.std.specs.Fmt.{signed_decimal}
 use Rattle.std.specs.Str.{all_ascii_digits}
@@ -42,19 +42,8 @@ unsigned_only bs =
     (λ large n low e. omega (arith, ltb-false _ _ large, ap value e, digits_value-decimal own n (omega arith))))
     (λ none n low e. both_ways _ none (ap numeral? e ∙ numeral_decimal n (omega arith)))
 
--- what a value that was cut at 2 ^ 32 says
-abbrev pub Cut : List ℕ → Option ℕ → Type 0
-Cut bs o = o ≡ cond (numeral? bs) (Some (min (value bs) (2 ^ 32))) None
-
-module _ (bs : List ℕ) where
-  pub unsigned_form : Cut bs None → Err Form ≡ unsigned_of bs
-  unsigned_form e = grind (arith, nat_tests)
-
-  pub unsigned_ok : (n : ℕ) → Cut bs (Some n) → n < 2 ^ 32 → Ok n ≡ unsigned_of bs
-  unsigned_ok n e l = grind (arith, nat_tests)
-
-  pub unsigned_large : (n : ℕ) → Cut bs (Some n) → 2 ^ 32 ≤ n → Err TooLarge ≡ unsigned_of bs
-  unsigned_large n e l = grind (arith, nat_tests)
+pub unsigned_exact : (bs : List ℕ) (r : Result ℕ NumberFault) → r ≡ unsigned_of bs → OnlyDecimal bs r
+unsigned_exact bs r said = subst (OnlyDecimal bs) (sym said) (unsigned_only bs)
 
 -- without a minus in front, a signed number is an unsigned one
 plain_signed : (b : ℕ) (bs : List ℕ) → (b ≡ 45 → ⊥) → (signed_numeral? (b ∷ bs) ≡ numeral? (b ∷ bs)) × (signed_value (b ∷ bs) ≡ pos (value (b ∷ bs)))
@@ -109,6 +98,9 @@ signed_only bs =
     (λ large z low e. omega (arith, ltb-false _ _ large, ap (λ l. mag (signed_value l)) e, ap mag (signed_reads z low).1)))
     (λ none z low e. both_ways _ none (ap signed_numeral? e ∙ (signed_reads z low).0))
 
+pub signed_exact : (bs : List ℕ) (r : Result ℤ NumberFault) → r ≡ signed_of bs → OnlySigned bs r
+signed_exact bs r said = subst (OnlySigned bs) (sym said) (signed_only bs)
+
 abbrev pub narrow : ℤ → Result ℤ NumberFault
 narrow z = cond (ltb (mag z) (2 ^ 31)) (Ok z) (Err TooLarge)
 
@@ -121,17 +113,15 @@ narrow_cut f far n v e =
     ∙ sym (cond-false _ _ _ (le-ltb (mag (f v)) (2 ^ 31) (omega (arith, far v)))))
     (cases_lt v (2 ^ 32))
 
-pub cut_some : (bs : List ℕ) (n : ℕ) → Cut bs (Some n) → (numeral? bs ≡ true) × (n ≡ min (value bs) (2 ^ 32))
+-- what a value that was cut at 2 ^ 32 says
+abbrev pub Cut : List ℕ → ℕ → Type 0
+Cut bs n = Ok n ≡ cond (numeral? bs) (Ok (min (value bs) (2 ^ 32))) (Err Form)
+
+pub cut_some : (bs : List ℕ) (n : ℕ) → Cut bs n → (numeral? bs ≡ true) × (n ≡ min (value bs) (2 ^ 32))
 cut_some bs n e = grind (arith, nat_tests)
 
 module _ (bs : List ℕ) where
-  pub minus_form : Cut bs None → Err Form ≡ signed_of (45 ∷ bs)
-  minus_form e = grind (arith, nat_tests)
-
-  pub minus_zero : (n : ℕ) → Cut bs (Some n) → n ≡ 0 → Err Form ≡ signed_of (45 ∷ bs)
-  minus_zero n e none = grind (arith, nat_tests)
-
-  pub minus_some : (n : ℕ) → Cut bs (Some n) → (n ≡ 0 → ⊥) → narrow (neg_ℤ (pos n)) ≡ signed_of (45 ∷ bs)
+  pub minus_some : (n : ℕ) → Cut bs n → (n ≡ 0 → ⊥) → narrow (neg_ℤ (pos n)) ≡ signed_of (45 ∷ bs)
   minus_some n e some =
       let got = cut_some bs n e in
       let more = ne_eqb (value bs) 0 (λ z. some (omega (arith, got.1))) in
@@ -147,10 +137,7 @@ module _ (bs : List ℕ) (other : (rest : List ℕ) → bs ≡ 45 ∷ rest → �
       ap (λ t. cond t (narrow (signed_value (d ∷ ds))) (Err Form)) same.0
       ∙ ap (λ z. cond (numeral? (d ∷ ds)) (narrow z) (Err Form)) same.1
 
-  pub plain_form : Cut bs None → Err Form ≡ signed_of bs
-  plain_form e = grind (arith, nat_tests, plain_is bs other)
-
-  pub plain_some : (n : ℕ) → Cut bs (Some n) → narrow (pos n) ≡ signed_of bs
+  pub plain_some : (n : ℕ) → Cut bs n → narrow (pos n) ≡ signed_of bs
   plain_some n e =
       let got = cut_some bs n e in
       narrow_cut pos (λ k. omega arith) n (value bs) got.1 ∙ sym (plain_is bs other ∙ cond-true _ _ _ got.0)

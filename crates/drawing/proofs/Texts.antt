@@ -200,5 +200,5 @@ head_only line (Ok e) said = head_was line e (sym said)
 head_only line (Err f) said = λ e fits is. err_is_not_ok f e (said ∙ ap head_line is ∙ head_read e fits)
 
 pub edge_only : (line : List ℕ) (r : Result DrawnEdge Reason) → read_as r ≡ edge_line line → OnlyEdge line r
-edge_only line (Ok d) said = edge_was line (drawn_as d.edge d.is_turned) (sym said)
+edge_only line (Ok d) said = edge_was line (drawn_as d) (sym said)
 edge_only line (Err f) said = λ c sound is. err_is_not_ok f (drawn_with_ends c) (said ∙ ap edge_line is ∙ edge_read c sound)

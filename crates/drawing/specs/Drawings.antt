@@ -1,9 +1,9 @@
 -- What a text says: a drawing, or the first line that is refused and why.
-use Rattle.std.specs.Prelude.{◌≡◌, ℕ, suc, Bool, cond, List, [], ◌∷◌, Ok, Err, vec_items, Result, nat_le}
-use Rattle.plane.specs.declared.x_segment.XSegment.{XSegment}
+use Rattle.std.specs.Prelude.{◌≡◌, ℕ, suc, cond, List, [], ◌∷◌, map, Ok, Err, vec_items, Result, nat_le}
 use Rattle.drawing.specs.declared.fault.DrawingFault.{DrawingFault}
 use Rattle.drawing.specs.declared.fault.DrawingFault.TheVariants.{Line, Memory}
 use Rattle.drawing.specs.declared.drawing.Drawing.{Drawing}
+use Rattle.drawing.specs.declared.drawn_edge.DrawnEdge.{DrawnEdge}
 use Rattle.drawing.specs.declared.reason.Reason.{Reason}
 use Rattle.drawing.specs.declared.reason.Reason.TheVariants.{HeadForm, EdgeForm, TooManyEdges}
 use Rattle.drawing.specs.Fields.{fields}
@@ -52,14 +52,12 @@ drawing_from (l ∷ m ∷ ls) = with_edges (head_line l) (edges_from 2 (m ∷ ls
 abbrev pub drawing_of : List ℕ → Result (ℕ × List Drawn) Bad
 drawing_of text = drawing_from (lines text)
 
--- edges, and whether each is turned
-abbrev pub drawn : List XSegment → List Bool → List Drawn
-drawn [] ts = []
-drawn (s ∷ ss) [] = []
-drawn (s ∷ ss) (t ∷ ts) = drawn_as s t ∷ drawn ss ts
+-- edges as their lines draw them
+abbrev pub drawn : List DrawnEdge → List Drawn
+drawn es = map drawn_as es
 
 abbrev pub drawn_in : Drawing → List Drawn
-drawn_in d = drawn (vec_items d.edges) (vec_items d.turned)
+drawn_in d = drawn (vec_items d.edges)
 
 -- r is what the text says, unless memory ran out
 abbrev pub Tells : Result Drawing DrawingFault → Result (ℕ × List Drawn) Bad → Type 0

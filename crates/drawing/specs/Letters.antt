@@ -1,5 +1,5 @@
 -- The letters of finders.
-use Rattle.std.specs.Prelude.{ℕ, cond, List, [], ◌∷◌, Some, None, Option, ◌==◌}
+use Rattle.std.specs.Prelude.{ℕ, cond, Some, None, Option, ◌==◌}
 use Rattle.drawing.specs.declared.finder_kind.FinderKind.{FinderKind}
 use Rattle.drawing.specs.declared.finder_kind.FinderKind.TheVariants.{Grid, Pairs}
 
@@ -11,9 +11,3 @@ letter Pairs = 80
 -- the finder that a letter names
 abbrev pub kind_of : ℕ → Option FinderKind
 kind_of c = cond (c == letter Grid) (Some Grid) (cond (c == letter Pairs) (Some Pairs) None)
-
--- the finder that a field of one letter names
-abbrev pub finder_of : List ℕ → Option FinderKind
-finder_of [] = None
-finder_of (c ∷ []) = kind_of c
-finder_of (c ∷ d ∷ cs) = None

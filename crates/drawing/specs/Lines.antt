@@ -4,7 +4,6 @@ use Rattle.std.specs.Str.{bytes_eq}
 use Rattle.plane.specs.Points.{Point, before?}
 use Rattle.plane.specs.Edges.{Edge}
 use Rattle.plane.specs.Models.{edge_of, edge_between}
-use Rattle.plane.specs.declared.x_segment.XSegment.{XSegment}
 use Rattle.drawing.specs.declared.drawn_edge.DrawnEdge.{DrawnEdge}
 use Rattle.drawing.specs.declared.number.NumberFault.{NumberFault}
 use Rattle.drawing.specs.declared.number.NumberFault.TheVariants.{Form, TooLarge}
@@ -86,9 +85,9 @@ edge_with (Err f) = Err (reason_of f EdgeForm)
 abbrev pub edge_line : List ℕ → Result Drawn Reason
 edge_line line = edge_with (two_points (parts line))
 
-abbrev pub drawn_as : XSegment → Bool → Drawn
-drawn_as s t = record { edge = edge_of s; turned = t }
+abbrev pub drawn_as : DrawnEdge → Drawn
+drawn_as d = record { edge = edge_of d.edge; turned = d.is_turned }
 
 abbrev pub read_as : Result DrawnEdge Reason → Result Drawn Reason
-read_as (Ok d) = Ok (drawn_as d.edge d.is_turned)
+read_as (Ok d) = Ok (drawn_as d)
 read_as (Err f) = Err f

@@ -50,7 +50,7 @@ pub record EdgeWritten (line : List ℕ) (e : Drawn) : Type 0 where
   pub edge : e ≡ drawn_with_ends ends
 
 abbrev pub OnlyEdge : List ℕ → Result DrawnEdge Reason → Type 0
-OnlyEdge line (Ok d) = EdgeWritten line (drawn_as d.edge d.is_turned)
+OnlyEdge line (Ok d) = EdgeWritten line (drawn_as d)
 OnlyEdge line (Err f) = (c : Ends) → Sound c → line ≢ edge_text c
 
 -- the k-th edge is that of the k-th line after the first

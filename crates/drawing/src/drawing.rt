@@ -1,7 +1,7 @@
-//! A drawing: its edges, of which there are few by its type, whether each is turned, and its snap exponent.
-ghost use Rattle.std.specs.Prelude.{◌≡◌, ◌≤◌, vec_len};
+//! A drawing: its edges, of which there are few by its type, each as its line draws it, and its snap exponent.
+ghost use Rattle.std.specs.Prelude.{◌≤◌, vec_len};
 
-use plane::x_segment::XSegment;
+use crate::drawn_edge::DrawnEdge;
 
 /// More edges than this are refused.
 pub const MOST_EDGES: usize = 4096;
@@ -9,9 +9,6 @@ pub const MOST_EDGES: usize = 4096;
 #[derive(Drop)]
 pub struct Drawing {
     pub exponent: u32,
-    pub edges: Vec<XSegment>,
-    /// Whether the first point of the line of an edge comes after its second.
-    pub turned: Vec<bool>,
+    pub edges: Vec<DrawnEdge>,
     ghost few: { vec_len edges ≤ 4096 },
-    ghost paired: { vec_len turned ≡ vec_len edges },
 }

@@ -1,7 +1,10 @@
 //! One line of a drawing: the first, or that of an edge.
-ghost use Rattle.std.specs.Prelude.{◌≡◌};
+ghost use Rattle.std.specs.Prelude.{◌≡◌, MatchResult};
+ghost use Rattle.plane.specs.PointOf.{point_of};
+ghost use Rattle.plane.specs.Points.{Ranged};
+ghost use Rattle.drawing.specs.declared.reason.Reason.TheVariants.{CoordinateOutside};
 ghost use Rattle.drawing.specs.Texts.{OnlyEdge, OnlyHead};
-ghost use Rattle.drawing.specs.Lines.{edge_line, head_line, parts, read_as, reason_of, together, two_points};
+ghost use Rattle.drawing.specs.Lines.{edge_line, head_line, parts, point, read_as, reason_of, together, two_points};
 
 use crate::drawn_edge::DrawnEdge;
 use crate::field::cut_at;
@@ -18,16 +21,11 @@ pub fn read_head(line: &[u8]) -> Result<u32, Reason>
     ensures said { result ≡ head_line line.now }
     ensures written { OnlyHead line.now result }
 {
-    let Some((exponent, letter)) = cut_at(line, TAB) else {
-        return Err(Reason::HeadForm);
-    };
+    let (exponent, letter) = cut_at(line, TAB).ok_or(Reason::HeadForm)?;
     if letter != b"P".as_slice() {
         return Err(Reason::HeadForm);
     }
-    match read_unsigned(exponent) {
-        Ok(exponent) => Ok(exponent),
-        Err(fault) => Err(reason(fault, Reason::HeadForm)),
-    }
+    read_unsigned(exponent).map_err(|fault| reason(fault, Reason::HeadForm))
 }
 
 /// The edge of a line, its ends in either order, and whether they are exchanged.
@@ -35,38 +33,30 @@ pub fn read_edge(line: &[u8]) -> Result<DrawnEdge, Reason>
     ensures said { read_as result ≡ edge_line line.now }
     ensures written { OnlyEdge line.now result }
 {
-    let ((px, py), (qx, qy)) = match read_points(line) {
-        Ok(points) => points,
-        Err(fault) => return Err(reason(fault, Reason::EdgeForm)),
-    };
-    let Ok(p) = IntPoint::new(px, py) else {
-        return Err(Reason::CoordinateOutside);
-    };
-    let Ok(q) = IntPoint::new(qx, qy) else {
-        return Err(Reason::CoordinateOutside);
-    };
-    match XSegment::new(p, q) {
-        Ok(edge) => Ok(DrawnEdge {
-            edge,
-            is_turned: q.is_before(p),
-        }),
-        Err(_) => Err(Reason::EndsEqual),
-    }
+    let (p, q) = read_points(line).map_err(|fault| reason(fault, Reason::EdgeForm))?;
+    let p = ranged(p)?;
+    let q = ranged(q)?;
+    let edge = XSegment::new(p, q).map_err(|_| Reason::EndsEqual)?;
+    Ok(DrawnEdge {
+        edge,
+        is_turned: q.is_before(p),
+    })
+}
+
+/// The point of two coordinates.
+fn ranged(at: (i32, i32)) -> Result<IntPoint, Reason>
+    ensures { MatchResult result (λ p. point_of p ≡ point at) (λ why. (why ≡ CoordinateOutside) × ¬ (Ranged (point at))) }
+{
+    IntPoint::new(at.0, at.1).map_err(|_| Reason::CoordinateOutside)
 }
 
 /// The coordinates of two points.
 fn read_points(line: &[u8]) -> Result<((i32, i32), (i32, i32)), NumberFault>
     ensures { result ≡ two_points (parts line.now) }
 {
-    let Some((px, rest)) = cut_at(line, TAB) else {
-        return Err(NumberFault::Form);
-    };
-    let Some((py, rest)) = cut_at(rest, TAB) else {
-        return Err(NumberFault::Form);
-    };
-    let Some((qx, qy)) = cut_at(rest, TAB) else {
-        return Err(NumberFault::Form);
-    };
+    let (px, rest) = cut_at(line, TAB).ok_or(NumberFault::Form)?;
+    let (py, rest) = cut_at(rest, TAB).ok_or(NumberFault::Form)?;
+    let (qx, qy) = cut_at(rest, TAB).ok_or(NumberFault::Form)?;
     if cut_at(qy, TAB).is_some() {
         return Err(NumberFault::Form);
     }

@@ -18,13 +18,9 @@ pub fn read_drawing(heap: Global, text: &[u8]) -> Result<Drawing, DrawingFault>
     ensures said { Tells result (drawing_of text.now) }
     ensures written { OnlyDrawing text.now result }
 {
-    let Some((head, rest)) = cut_at(text, LF) else {
-        return Err(DrawingFault::Line(1, Reason::HeadForm));
-    };
-    match read_head(head) {
-        Ok(exponent) => read_edges(heap, exponent, rest),
-        Err(reason) => Err(DrawingFault::Line(1, reason)),
-    }
+    let (head, rest) = cut_at(text, LF).ok_or(DrawingFault::Line(1, Reason::HeadForm))?;
+    let exponent = read_head(head).map_err(|reason| DrawingFault::Line(1, reason))?;
+    read_edges(heap, exponent, rest)
 }
 
 /// The drawing of an exponent and of the lines after the first.
@@ -32,26 +28,18 @@ fn read_edges(heap: Global, exponent: u32, text: &[u8]) -> Result<Drawing, Drawi
     ensures { Tells result (with_edges (Ok exponent) (edges_from 2 (lines text.now))) }
 {
     let mut edges = Vec::new(heap);
-    let mut turned = Vec::new(heap);
     let mut rest = text;
     while let Some((line, after)) = cut_at(rest, LF) {
-        match read_edge(line) {
-            Ok(drawn) if edges.len() < MOST_EDGES => {
-                edges.push(drawn.edge)?;
-                turned.push(drawn.is_turned)?;
-            }
-            Ok(_) => return Err(DrawingFault::Line(edges.len() + 2, Reason::TooManyEdges)),
-            Err(reason) => return Err(DrawingFault::Line(edges.len() + 2, reason)),
+        let number = edges.len() + 2;
+        let drawn = read_edge(line).map_err(|reason| DrawingFault::Line(number, reason))?;
+        if edges.len() >= MOST_EDGES {
+            return Err(DrawingFault::Line(number, Reason::TooManyEdges));
         }
+        edges.push(drawn)?;
         rest = after;
     }
-    if rest.is_empty() {
-        Ok(Drawing {
-            exponent,
-            edges,
-            turned,
-        })
-    } else {
-        Err(DrawingFault::Line(edges.len() + 2, Reason::EdgeForm))
+    if !rest.is_empty() {
+        return Err(DrawingFault::Line(edges.len() + 2, Reason::EdgeForm));
     }
+    Ok(Drawing { exponent, edges })
 }

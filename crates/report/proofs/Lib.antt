@@ -1,3 +1,2 @@
 pub mod Alone
 pub mod Coming
-pub mod Directing

@@ -1,7 +1,7 @@
 -- The edges of a drawing as segments: each, as its line directs it, counts one for the subject.
-use Rattle.std.specs.Prelude.{Bool, true, false, List, [], ◌∷◌, pos, negsuc}
+use Rattle.std.specs.Prelude.{Bool, true, false, List, map, pos, negsuc}
 use Rattle.std.proofs.Common.{lit<}
-use Rattle.plane.specs.declared.x_segment.XSegment.{XSegment}
+use Rattle.drawing.specs.declared.drawn_edge.DrawnEdge.{DrawnEdge}
 use Rattle.segm.specs.declared.boolean.ShapeCountBoolean.{ShapeCountBoolean}
 use Rattle.segm.specs.declared.segment.Segment.{Segment}
 
@@ -10,11 +10,8 @@ abbrev pub subject_count : Bool → ShapeCountBoolean
 subject_count false = record { subj = pos 1; clip = pos 0; subj_fits = lit< tt; clip_fits = lit< tt }
 subject_count true = record { subj = negsuc 0; clip = pos 0; subj_fits = lit< tt; clip_fits = lit< tt }
 
-abbrev pub directed_edge : XSegment → Bool → Segment ShapeCountBoolean
-directed_edge s t = record { a = s.a; b = s.b; count = subject_count t }
+abbrev pub directed_edge : DrawnEdge → Segment ShapeCountBoolean
+directed_edge d = record { a = d.edge.a; b = d.edge.b; count = subject_count d.is_turned }
 
--- edges, and whether each is turned
-abbrev pub directed_edges : List XSegment → List Bool → List (Segment ShapeCountBoolean)
-directed_edges [] ts = []
-directed_edges (s ∷ ss) [] = []
-directed_edges (s ∷ ss) (t ∷ ts) = directed_edge s t ∷ directed_edges ss ts
+abbrev pub directed_edges : List DrawnEdge → List (Segment ShapeCountBoolean)
+directed_edges ds = map directed_edge ds

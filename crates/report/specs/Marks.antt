@@ -4,10 +4,19 @@ use Rattle.std.specs.Ordering.{is_eq, nat_cmp, ordering_then}
 use Rattle.plane.specs.Points.{Point}
 use Rattle.plane.specs.PointOf.{point_of}
 use Rattle.plane.specs.Edges.{Edge}
+use Rattle.plane.specs.Models.{edge_of}
 use Rattle.plane.specs.Rules.{marked_on, rounded?}
+use Rattle.drawing.specs.declared.drawn_edge.DrawnEdge.{DrawnEdge}
 use Rattle.segm.specs.Orders.{point_order}
 use Rattle.segm.specs.Marked as listing
 use Rattle.segm.specs.declared.line_mark.LineMark.{LineMark}
+
+-- the edge that a line draws
+abbrev pub edge_in : DrawnEdge → Edge
+edge_in d = edge_of d.edge
+
+abbrev pub edges_of : List DrawnEdge → List Edge
+edges_of ds = map edge_in ds
 
 -- a point on the edge of a number
 pub record Spot : Type 0 where

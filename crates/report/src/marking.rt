@@ -1,10 +1,11 @@
 //! The marks of a drawing: what the crossings of its edges mark, in order and each once.
-ghost use Rattle.std.specs.Prelude.{◌≡◌, map, IfSome, IfOk, OnOk};
+ghost use Rattle.std.specs.Prelude.{◌≡◌, IfSome, IfOk, OnOk};
 ghost use Rattle.plane.specs.Models.{edge_of, points_of};
 ghost use Rattle.table.specs.Tables.{records_of};
-ghost use Rattle.report.specs.Marks.{Alone, Come, Marked, marks_on, rounded_on?, spots};
+ghost use Rattle.report.specs.Marks.{Alone, Come, Marked, all_marks, any_rounded?, edges_of, marks_on, rounded_on?, spots};
 
 use drawing::drawing::Drawing;
+use drawing::drawn_edge::DrawnEdge;
 use plane::cross_solver::{CrossSolver, EdgeMarks};
 use plane::snap_radius::SnapRadius;
 use plane::x_segment::XSegment;
@@ -28,15 +29,14 @@ pub struct Marking {
 
 /// The marks of a drawing. Where a table is too short, one twice as long is filled from the start.
 pub fn mark_drawing(heap: Global, drawing: &Drawing) -> Result<Marking, AllocError>
-    ensures { IfOk result (λ m. Marked drawing.now.exponent (map edge_of drawing.now.edges.items) m.marks.items m.is_rounded × Alone) }
+    ensures { IfOk result (λ m. Marked drawing.now.exponent (edges_of drawing.now.edges.items) m.marks.items m.is_rounded × Alone) }
 {
     let edges = drawing.edges.as_slice();
     let radius = SnapRadius::new(drawing.exponent, 0);
     let mut room = FEWEST_PLACES.max(4 * edges.len());
+    // Stays: an iterator of doubled numbers, `successors`, has no end that is proved, and a range of powers begins at no multiple of the edges.
     while room <= MOST_PLACES {
-        let mut places = vec![in heap; LineMark::blank(); room]?;
-        let found = mark_within(heap, edges, radius, places.as_mut_slice())?;
-        if let Some(marking) = found {
+        if let Some(marking) = mark_within(heap, edges, radius, room)? {
             return Ok(marking);
         }
         room *= 2;
@@ -44,27 +44,38 @@ pub fn mark_drawing(heap: Global, drawing: &Drawing) -> Result<Marking, AllocErr
     Err(AllocError)
 }
 
-/// The marks by a table over some places; none where they are too few.
+/// The marks by a table of some places; none where they are too few.
 fn mark_within(
     heap: Global,
-    edges: &[XSegment],
+    edges: &[DrawnEdge],
     radius: SnapRadius,
-    places: &mut [LineMark],
+    room: usize,
 ) -> Result<Option<Marking>, AllocError>
-    ensures { IfOk result (λ o. IfSome o (λ m. Marked radius.current (map edge_of edges.now) m.marks.items m.is_rounded)) }
+    ensures { IfOk result (λ o. IfSome o (λ m. Marked radius.current (edges_of edges.now) m.marks.items m.is_rounded)) }
 {
-    let room = places.len();
-    let mut table = OrderedTable::open(places, room);
-    let mut is_rounded = false;
-    // Edge after edge, so that a mark comes to the end of the table or not far from it.
-    for i in 0..edges.len() {
-        match mark_edge(&mut table, i, &edges[i], edges, radius) {
-            Ok(is_round) => is_rounded = is_rounded || is_round,
-            Err(NoRoom) => return Ok(None),
-        }
-    }
+    let mut places = vec![in heap; LineMark::blank(); room]?;
+    let mut table = OrderedTable::open(places.as_mut_slice(), room);
+    let Ok(is_rounded) = mark_all(&mut table, edges, radius) else {
+        return Ok(None);
+    };
     let marks = Vec::from_slice(heap, table.records())?;
     Ok(Some(Marking { marks, is_rounded }))
+}
+
+/// Adds the marks of all crossings, edge after edge, so that a mark comes to the end of the table or not far from it.
+fn mark_all(
+    table: &mut OrderedTable<'_, LineMark>,
+    edges: &[DrawnEdge],
+    radius: SnapRadius,
+) -> Result<bool, NoRoom>
+    ensures marks { OnOk result (Come (all_marks radius.current (edges_of edges.now) 0 (edges_of edges.now)) (records_of table.old) (records_of table.new)) }
+    ensures rounded { IfOk result (λ told. told ≡ any_rounded? radius.current (edges_of edges.now) (edges_of edges.now)) }
+{
+    let mut is_rounded = false;
+    for (index, drawn) in edges.iter().enumerate() {
+        is_rounded |= mark_edge(table, index, &drawn.edge, edges, radius)?;
+    }
+    Ok(is_rounded)
 }
 
 /// Adds the marks on an edge of its crossings with all edges, and tells whether one of them was rounded.
@@ -72,21 +83,22 @@ fn mark_edge(
     table: &mut OrderedTable<'_, LineMark>,
     index: usize,
     edge: &XSegment,
-    edges: &[XSegment],
+    edges: &[DrawnEdge],
     radius: SnapRadius,
 ) -> Result<bool, NoRoom>
-    ensures marks { OnOk result (Come (marks_on radius.current index (edge_of edge.now) (map edge_of edges.now)) (records_of table.old) (records_of table.new)) }
-    ensures rounded { IfOk result (λ told. told ≡ rounded_on? radius.current (edge_of edge.now) (map edge_of edges.now)) }
+    ensures marks { OnOk result (Come (marks_on radius.current index (edge_of edge.now) (edges_of edges.now)) (records_of table.old) (records_of table.new)) }
+    ensures rounded { IfOk result (λ told. told ≡ rounded_on? radius.current (edge_of edge.now) (edges_of edges.now)) }
 {
     let mut is_rounded = false;
-    for j in 0..edges.len() {
-        let crossed = CrossSolver::marks(edge, &edges[j], radius);
+    for other in edges {
+        let crossed = CrossSolver::marks(edge, &other.edge, radius);
         add_marks(table, index, crossed.first)?;
-        is_rounded = is_rounded || crossed.is_round;
+        is_rounded |= crossed.is_round;
     }
     Ok(is_rounded)
 }
 
+/// Adds the marks of one crossing on an edge.
 fn add_marks(
     table: &mut OrderedTable<'_, LineMark>,
     index: usize,
@@ -95,18 +107,23 @@ fn add_marks(
     ensures { OnOk result (Come (spots index (points_of more)) (records_of table.old) (records_of table.new)) }
 {
     match more {
-        EdgeMarks::Zero => {}
-        EdgeMarks::One(point) => join_mark(table, LineMark { index, point })?,
-        EdgeMarks::Two(point, other) => {
-            join_mark(table, LineMark { index, point })?;
+        EdgeMarks::Zero => Ok(()),
+        EdgeMarks::One(point) => join_mark(table, LineMark { index, point }),
+        EdgeMarks::Two(first, second) => {
             join_mark(
                 table,
                 LineMark {
                     index,
-                    point: other,
+                    point: first,
                 },
             )?;
+            join_mark(
+                table,
+                LineMark {
+                    index,
+                    point: second,
+                },
+            )
         }
     }
-    Ok(())
 }

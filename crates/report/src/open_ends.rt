@@ -1,13 +1,13 @@
 //! The open ends of a drawing: the points whose balance is not empty when each edge, as its line directs it, counts one for the subject.
-ghost use Rattle.std.specs.Prelude.{◌≡◌, ◌≤◌, IfOk, Some, vec_len};
+ghost use Rattle.std.specs.Prelude.{◌≡◌, IfOk, Some};
 ghost use Rattle.segm.specs.BooleanKind.{boolean_kind};
 ghost use Rattle.segm.specs.Open.{Open};
-ghost use Rattle.report.specs.Directed.{directed_edge, directed_edges, subject_count};
+ghost use Rattle.report.specs.Directed.{directed_edge, directed_edges};
 ghost use Rattle.report.specs.Summaries.{open_words};
 
 use crate::counted::Counted;
 use drawing::drawing::Drawing;
-use plane::x_segment::XSegment;
+use drawing::drawn_edge::DrawnEdge;
 use segm::boolean::ShapeCountBoolean;
 use segm::corner::Corner;
 use segm::open_ends::open_ends;
@@ -33,10 +33,10 @@ impl fmt::Display for OpenEnds {
 impl OpenEnds {
     /// How many a drawing has.
     pub fn of(heap: Global, drawing: &Drawing) -> Result<OpenEnds, AllocError>
-        ensures { IfOk result (λ ends. Open boolean_kind (directed_edges drawing.now.edges.items drawing.now.turned.items) ends.number) }
+        ensures { IfOk result (λ ends. Open boolean_kind (directed_edges drawing.now.edges.items) ends.number) }
     {
+        let mut places = vec![in heap; Corner::blank(); 2 * drawing.edges.len()]?;
         let segments = direct_edges(heap, drawing)?;
-        let mut places = vec![in heap; Corner::blank(); 2 * segments.len()]?;
         match open_ends(segments.as_slice(), places.as_mut_slice()) {
             Ok(number) => Ok(OpenEnds { number }),
             // Two places for each segment are enough.
@@ -50,33 +50,22 @@ fn direct_edges(
     heap: Global,
     drawing: &Drawing,
 ) -> Result<Vec<Segment<ShapeCountBoolean>>, AllocError>
-    ensures all { IfOk result (λ segments. segments.items ≡ directed_edges drawing.now.edges.items drawing.now.turned.items) }
-    ensures few { IfOk result (λ segments. vec_len segments ≤ 4096) }
+    ensures { IfOk result (λ segments. segments.items ≡ directed_edges drawing.now.edges.items) }
 {
-    let edges = drawing.edges.as_slice();
-    let turned = drawing.turned.as_slice();
-    let mut segments = Vec::new(heap);
-    for i in 0..edges.len() {
-        segments.push(direct(edges[i], turned[i]))?;
-    }
-    Ok(segments)
+    drawing
+        .edges
+        .iter()
+        .map(|drawn| direct(*drawn))
+        .collect(heap)
 }
 
-fn direct(edge: XSegment, is_turned: bool) -> Segment<ShapeCountBoolean>
-    ensures { result ≡ directed_edge edge is_turned }
+fn direct(drawn: DrawnEdge) -> Segment<ShapeCountBoolean>
+    ensures { result ≡ directed_edge drawn }
 {
+    let subj = if drawn.is_turned { -1 } else { 1 };
     Segment {
-        a: edge.a,
-        b: edge.b,
-        count: count_subject(is_turned),
+        a: drawn.edge.a,
+        b: drawn.edge.b,
+        count: ShapeCountBoolean { subj, clip: 0 },
     }
-}
-
-fn count_subject(is_turned: bool) -> ShapeCountBoolean
-    ensures { result ≡ subject_count is_turned }
-{
-    if is_turned {
-        return ShapeCountBoolean { subj: -1, clip: 0 };
-    }
-    ShapeCountBoolean { subj: 1, clip: 0 }
 }

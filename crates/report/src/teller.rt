@@ -1,5 +1,5 @@
 //! The report of a drawing.
-ghost use Rattle.std.specs.Prelude.{◌≡◌, ◌-◌, ◌*◌, ◌/◌, ◌<◌, ◌≤◌, length, IfOk};
+ghost use Rattle.std.specs.Prelude.{◌≡◌, ◌-◌, ◌*◌, ◌/◌, ◌<◌, ◌≤◌, length, vec_len, IfOk};
 ghost use Rattle.drawing.specs.Drawings.{drawing_of};
 ghost use Rattle.report.specs.Verdicts.{verdict_of};
 
@@ -9,6 +9,7 @@ use crate::open_ends::OpenEnds;
 use crate::summary::Summary;
 use crate::touch::Touch;
 use drawing::drawing::Drawing;
+use drawing::drawn_edge::DrawnEdge;
 use drawing::fault::DrawingFault;
 use drawing::reader::read_drawing;
 use plane::touch_type::TouchType;
@@ -42,18 +43,17 @@ pub fn report<W: Write>(heap: Global, text: &[u8], out: &mut W) -> io::Result<Ve
 }
 
 fn tell<W: Write>(heap: Global, drawing: &Drawing, out: &mut W) -> io::Result<()> {
-    let edges = drawing.edges.len();
-    let touches = tell_touches(drawing.edges.as_slice(), out)?;
+    let touches = tell_touches(drawing, out)?;
     let marking = mark_drawing(heap, drawing)?;
-    for mark in marking.marks.iter() {
+    for mark in &marking.marks {
         let line = MarkLine(*mark);
         writeln!(out, "{line}")?;
     }
     let ends = OpenEnds::of(heap, drawing)?;
     writeln!(out, "{ends}")?;
     let summary = Summary {
-        edges,
-        pairs: pairs_of(edges),
+        edges: drawing.edges.len(),
+        pairs: count_pairs(drawing),
         touches,
         marks: marking.marks.len(),
         is_rounded: marking.is_rounded,
@@ -61,36 +61,40 @@ fn tell<W: Write>(heap: Global, drawing: &Drawing, out: &mut W) -> io::Result<()
     writeln!(out, "{summary}")
 }
 
-/// How many pairs some edges have.
-fn pairs_of(edges: usize) -> usize
-    requires { edges ≤ 4096 }
-    ensures { result ≡ edges * (edges - 1) / 2 }
+/// How many pairs the edges of a drawing have.
+fn count_pairs(drawing: &Drawing) -> usize
+    ensures { result ≡ vec_len drawing.now.edges * (vec_len drawing.now.edges - 1) / 2 }
 {
+    let edges = drawing.edges.len();
     edges * edges.saturating_sub(1) / 2
 }
 
 /// Tells the pairs that touch, a line to each, and how many they are.
-fn tell_touches<W: Write>(edges: &[XSegment], out: &mut W) -> io::Result<usize>
-    requires { length edges.now ≤ 4096 }
-{
+fn tell_touches<W: Write>(drawing: &Drawing, out: &mut W) -> io::Result<usize> {
+    let edges = drawing.edges.as_slice();
     let mut touches = 0;
-    for i in 0..edges.len() {
-        touches += tell_row(edges, i, out)?;
+    for (first, drawn) in edges.iter().enumerate() {
+        touches += tell_row(first, &drawn.edge, edges, out)?;
     }
     Ok(touches)
 }
 
 /// Those of an edge with the edges after it.
-fn tell_row<W: Write>(edges: &[XSegment], first: usize, out: &mut W) -> io::Result<usize>
+fn tell_row<W: Write>(
+    first: usize,
+    edge: &XSegment,
+    edges: &[DrawnEdge],
+    out: &mut W,
+) -> io::Result<usize>
     requires { first < length edges.now }
     ensures { IfOk result (λ touches. touches ≤ length edges.now) }
 {
     let mut touches = 0;
-    for second in first + 1..edges.len() {
-        if let Some(kind) = TouchType::of(&edges[first], &edges[second]) {
+    for (place, other) in edges[first + 1..].iter().enumerate() {
+        if let Some(kind) = TouchType::of(edge, &other.edge) {
             let touch = Touch {
                 first,
-                second,
+                second: first + 1 + place,
                 kind,
             };
             writeln!(out, "{touch}")?;

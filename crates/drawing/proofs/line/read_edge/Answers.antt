@@ -1,66 +1,69 @@
-use Rattle.std.proofs.Common.{◌≡◌, Ok, Err, sym, ap, ◌∙◌, w32, SFits, rules}
-use Rattle.std.proofs.lemmas.Int.{to_z-of_z}
+use Rattle.std.proofs.Common.{◌≡◌, Ok, Err, is_ok, sym, ap, ◌∙◌, subst, rules}
 use Rattle.plane.specs.Points.{Ranged}
 use Rattle.plane.specs.PointOf.{point_of}
+use Rattle.plane.specs.Models.{MadeEdge}
 use Rattle.plane.specs.declared.int_point.IntPoint.{IntPoint}
 use Rattle.drawing.specs.declared.drawn_edge.DrawnEdge.{DrawnEdge}
-use Rattle.drawing.specs.Lines.{edge_with, edge_from, edge_line, point}
 use Rattle.drawing.specs.declared.reason.Reason.TheVariants.{CoordinateOutside, EndsEqual}
+use Rattle.drawing.specs.Lines.{edge_with, edge_from, edge_line, parts, point, read_as, two_points}
 use Rattle.drawing.proofs.Texts.{edge_only}
-use Rattle.drawing.proofs.Lines.{first_outside, second_outside, ends_equal, edge_made}
+use Rattle.drawing.proofs.Lines.{first_outside, second_outside, ends_same, ends_equal, edge_made}
 use Rattle.drawing.proofs.line.read_edge.Goals as goal
-use Rattle.drawing.proofs.line.read_edge.Goals.{After-new-3}
+use Rattle.drawing.proofs.line.read_edge.Goals.{In_ok-p, In_ok-q}
 
-pub returns-in-Err : goal.returns-in-Err
-returns-in-Err c =
-    let said = ap (λ f. Err f) c.reason.ensures ∙ ap edge_with c.in-Err.ensures in
-    record { said = said; written = edge_only c.args.line.now (Err c.reason.result) said }
+-- the line says what its two points do
+edge_is : (c : In_ok-p) → edge_from (point c.in_ok-p.p) (point c.in_ok-p.q) ≡ edge_line c.args.line.now
+edge_is c =
+    let points : Ok (c.in_ok-p.p, c.in_ok-p.q) ≡ two_points (parts c.args.line.now) = search rules in
+    ap edge_with points
 
-pub returns-in_default : goal.returns-in_default
-returns-in_default c =
-    let fit : SFits w32 c.in-Ok.points.0.0 = search rules in
-    let fit_2 : SFits w32 c.in-Ok.points.0.1 = search rules in
-    let none = simp to_z-of_z at c.in_default.ensures.1 in
-    let said = sym (ap edge_with (sym c.in-Ok.ensures) ∙ first_outside (point c.in-Ok.points.0) (point c.in-Ok.points.1) none) in
-    record { said = said; written = edge_only c.args.line.now (Err CoordinateOutside) said }
-
-pub returns-in_default-new : goal.returns-in_default-new
-returns-in_default-new c =
-    let fit : SFits w32 c.in-Ok.points.1.0 = search rules in
-    let fit_2 : SFits w32 c.in-Ok.points.1.1 = search rules in
-    let none = simp to_z-of_z at c.in_default-new.ensures.1 in
-    let said = sym (ap edge_with (sym c.in-Ok.ensures) ∙ second_outside (point c.in-Ok.points.0) (point c.in-Ok.points.1) none) in
-    record { said = said; written = edge_only c.args.line.now (Err CoordinateOutside) said }
-
--- both points are within range, and are those of the line
-said_of : (c : After-new-3) → edge_from (point_of c.in-Ok-new.p) (point_of c.in-Ok-new-2.q) ≡ edge_line c.args.line.now
-said_of c =
-    let fit : SFits w32 c.in-Ok.points.0.0 = search rules in
-    let fit_2 : SFits w32 c.in-Ok.points.0.1 = search rules in
-    let fit_3 : SFits w32 c.in-Ok.points.1.0 = search rules in
-    let fit_4 : SFits w32 c.in-Ok.points.1.1 = search rules in
-    let first : point_of c.in-Ok-new.p ≡ point c.in-Ok.points.0 = simp to_z-of_z at c.in-Ok-new.ensures in
-    let second : point_of c.in-Ok-new-2.q ≡ point c.in-Ok.points.1 = simp to_z-of_z at c.in-Ok-new-2.ensures in
-    (λ i. edge_from (first i) (second i)) ∙ ap edge_with c.in-Ok.ensures
+-- both points are within range
+edge_of_both : (c : In_ok-q) → edge_from (point c.in_ok-p.p) (point c.in_ok-p.q) ≡ edge_line c.args.line.now → edge_from (point_of c.in_ok-p-2.p) (point_of c.in_ok-q.q) ≡ edge_line c.args.line.now
+edge_of_both c is = (λ i. edge_from (c.in_ok-p-2.ensures i) (c.in_ok-q.ensures i)) ∙ is
 
 ranged : (p : IntPoint) → Ranged (point_of p)
 ranged p = record { wide = p.wide; high = p.high }
 
-pub returns-in-Ok-new-3 : goal.returns-in-Ok-new-3
-returns-in-Ok-new-3 c =
-    let p = c.in-Ok-new.p in
-    let q = c.in-Ok-new-2.q in
-    let drawn : DrawnEdge = record { edge = c.in-Ok-new-3.edge; is_turned = c.is_before.result } in
-    let said =
-    sym (edge_made (point_of p) (point_of q) drawn (ranged p) (ranged q) c.in-Ok-new-3.ensures c.is_before.ensures)
-    ∙ said_of (goal.at.returns-in-Ok-new-3 c).After-new-3 in
-    record { said = said; written = edge_only c.args.line.now (Ok drawn) said }
+pub returns-in_err-p-clause-written : goal.returns-in_err-p-clause-written
+returns-in_err-p-clause-written c = edge_only c.args.line.now c.from_residual.result (search rules)
 
-pub returns-in-Err-new : goal.returns-in-Err-new
-returns-in-Err-new c =
-    let p = c.in-Ok-new.p in
-    let q = c.in-Ok-new-2.q in
+pub returns-in_err-p-2 : goal.returns-in_err-p-2
+returns-in_err-p-2 c =
+    let outside : c.from_residual-in_err-p-2.result ≡ Err CoordinateOutside = search rules in
     let said =
-    sym (ends_equal (point_of p) (point_of q) (ranged p) (ranged q) c.in-Err-new.ensures.1)
-    ∙ said_of (goal.at.returns-in-Err-new c).After-new-3 in
-    record { said = said; written = edge_only c.args.line.now (Err EndsEqual) said }
+    ap read_as outside
+    ∙ sym (first_outside (point c.in_ok-p.p) (point c.in_ok-p.q) c.in_err-p-2.ensures.1)
+    ∙ edge_is (goal.at.returns-in_err-p-2 c).In_ok-p in
+    record { said = said; written = edge_only c.args.line.now c.from_residual-in_err-p-2.result said }
+
+pub returns-in_err-q : goal.returns-in_err-q
+returns-in_err-q c =
+    let outside : c.from_residual-in_err-q.result ≡ Err CoordinateOutside = search rules in
+    let said =
+    ap read_as outside
+    ∙ sym (second_outside (point c.in_ok-p.p) (point c.in_ok-p.q) c.in_err-q.ensures.1)
+    ∙ edge_is (goal.at.returns-in_err-q c).In_ok-p in
+    record { said = said; written = edge_only c.args.line.now c.from_residual-in_err-q.result said }
+
+pub returns-in_err-edge : goal.returns-in_err-edge
+returns-in_err-edge c =
+    let p = c.in_ok-p-2.p in
+    let q = c.in_ok-q.q in
+    let equal : c.from_residual-in_err-edge.result ≡ Err EndsEqual = search rules in
+    let same = ends_same (point_of p) (point_of q) c.new.result (sym c.map_err-2.ensures.variant ∙ ap is_ok c.in_err-edge.was) c.new.ensures in
+    let said =
+    ap read_as equal
+    ∙ sym (ends_equal (point_of p) (point_of q) (ranged p) (ranged q) same)
+    ∙ edge_of_both (goal.at.returns-in_err-edge c).In_ok-q (edge_is (goal.at.returns-in_err-edge c).In_ok-p) in
+    record { said = said; written = edge_only c.args.line.now c.from_residual-in_err-edge.result said }
+
+pub returns : goal.returns
+returns c =
+    let p = c.in_ok-p-2.p in
+    let q = c.in_ok-q.q in
+    let made : c.new.result ≡ Ok c.in_ok-edge.edge = search rules in
+    let drawn : DrawnEdge = record { edge = c.in_ok-edge.edge; is_turned = c.is_before.result } in
+    let said =
+    sym (edge_made (point_of p) (point_of q) drawn (ranged p) (ranged q) (subst (MadeEdge (point_of p) (point_of q)) made c.new.ensures) c.is_before.ensures)
+    ∙ edge_of_both (goal.at.returns c).In_ok-q (edge_is (goal.at.returns c).In_ok-p) in
+    record { said = said; written = edge_only c.args.line.now (Ok drawn) said }

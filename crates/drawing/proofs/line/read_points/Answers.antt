@@ -1,4 +1,4 @@
-use Rattle.std.proofs.Common.{◌≡◌, ℕ, true, List, ◌∷◌, is_some, Some, None, Err, Option, sym, ap, ◌∙◌, Bor}
+use Rattle.std.proofs.Common.{◌≡◌, ℕ, true, List, ◌∷◌, is_some, Some, None, Err, Option, sym, ap, ◌∙◌, subst, Bor}
 use Rattle.std.proofs.lemmas.Bool.{true≢false}
 use Rattle.drawing.specs.declared.number.NumberFault.TheVariants.{Form}
 use Rattle.drawing.specs.Fields.{fields, Cuts}
@@ -12,10 +12,10 @@ fifth a b c d (Some x) cut some = ap (λ l. two_points (a ∷ b ∷ c ∷ l)) cu
 
 pub returns-then-is_some : goal.returns-then-is_some
 returns-then-is_some c =
-    let px = c.in-Some.px.now in
-    let py = c.in-Some-cut_at.py.now in
-    let qx = c.in-Some-cut_at-2.qx.now in
-    let more = c.in-Some.ensures.0 in
-    let more_2 = c.in-Some-cut_at.ensures.0 in
-    let more_3 = c.in-Some-cut_at-2.ensures.0 in
-    sym (ap two_points (more ∙ ap (λ l. px ∷ l) (more_2 ∙ ap (λ l. py ∷ l) more_3)) ∙ fifth px py qx c.in-Some-cut_at-2.qy.now _ c.cut_at-4.ensures c.if-is_some.ensures)
+    let px = c.in_ok-px.px.now in
+    let py = c.in_ok-py.py.now in
+    let qx = c.in_ok-qx.qx.now in
+    let first = subst (Cuts 9 c.args.line.now) c.in_ok-px.ensures.ok_part c.cut_at.ensures in
+    let second = subst (Cuts 9 c.in_ok-px.rest.now) c.in_ok-py.ensures.ok_part c.cut_at-2.ensures in
+    let third = subst (Cuts 9 c.in_ok-py.rest.now) c.in_ok-qx.ensures.ok_part c.cut_at-3.ensures in
+    sym (ap two_points (first.0 ∙ ap (λ l. px ∷ l) (second.0 ∙ ap (λ l. py ∷ l) third.0)) ∙ fifth px py qx c.in_ok-qx.qy.now _ c.cut_at-4.ensures c.if-is_some.ensures)

@@ -1,17 +1,17 @@
 use Rattle.table.specs.Tables.{records_of}
-use Rattle.report.proofs.Coming.{none_come, one_come, two_come}
+use Rattle.std.proofs.lemmas.Result.{on_ok_weaker}
+use Rattle.report.proofs.Coming.{one_come, two_come}
 use Rattle.report.proofs.marking.add_marks.Goals as goal
 
-pub returns-in-Zero : goal.returns-in-Zero
-returns-in-Zero c = none_come c.args.index c.args.more (records_of c.args.table.now) c.in-Zero.is
+pub returns-in-One : goal.returns-in-One
+returns-in-One c =
+    on_ok_weaker _ (λ joined. one_come c.args.index c.args.more c.in-One.point (records_of c.args.table.now) (records_of c.join_mark.new.marks) c.in-One.is joined)
+    c.join_mark.ensures.marked
 
-pub returns-in_ok-join_mark-in-One : goal.returns-in_ok-join_mark-in-One
-returns-in_ok-join_mark-in-One c =
-    one_come c.args.index c.args.more c.in-One.point (records_of c.args.table.now) (records_of c.join_mark.new.marks) c.in-One.is
-    c.in_ok-join_mark-in-One.ensures.marked
-
-pub returns-in_ok-join_mark-in-Two-2 : goal.returns-in_ok-join_mark-in-Two-2
-returns-in_ok-join_mark-in-Two-2 c =
-    two_come c.args.index c.args.more c.in-Two.point c.in-Two.other
+pub returns-in_ok-join_mark-in-Two : goal.returns-in_ok-join_mark-in-Two
+returns-in_ok-join_mark-in-Two c =
+    on_ok_weaker _
+    (λ joined. two_come c.args.index c.args.more c.in-Two.first c.in-Two.second
     (records_of c.args.table.now) (records_of c.join_mark-in-Two.new.marks) (records_of c.join_mark-in-Two-2.new.marks) c.in-Two.is
-    c.in_ok-join_mark-in-Two.ensures.marked c.in_ok-join_mark-in-Two-2.ensures.marked
+    c.in_ok-join_mark-in-Two.ensures.marked joined)
+    c.join_mark-in-Two-2.ensures.marked

@@ -1,5 +1,5 @@
 use Rattle.std.proofs.Common.{◌≤◌}
 use Rattle.report.proofs.teller.tell_row.Given as goal
 
-abbrev pub invariant-loop-second : goal.invariant-loop-second
-invariant-loop-second g l = l.touches ≤ l.second
+abbrev pub invariant-loop-place : goal.invariant-loop-place
+invariant-loop-place g l = l.touches ≤ l.place
