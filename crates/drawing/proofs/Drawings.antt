@@ -1,12 +1,12 @@
 -- Reading the lines of edges, one after another.
-use Rattle.std.proofs.Common.{◌≡◌, ℕ, suc, ◌+◌, ◌<◌, ◌≤◌, List, [], ◌∷◌, ◌++◌, length, Ok, Err, Result, sym, refl, ap, ◌∙◌, append_assoc, append-nil, arith}
+use Rattle.std.proofs.Common.{◌≡◌, ℕ, suc, ◌+◌, ◌<◌, ◌≤◌, List, [], ◌∷◌, ◌++◌, length, Ok, Err, Result, sym, refl, ap, ◌∙◌, append_assoc, arith}
 use Rattle.std.proofs.lemmas.List.{length_push, map_push}
 use Rattle.std.proofs.lemmas.Bool.{cond-true, cond-false, le-leb, lt-leb}
 use Rattle.drawing.specs.declared.drawn_edge.DrawnEdge.{DrawnEdge}
 use Rattle.drawing.specs.declared.reason.Reason.{Reason}
-use Rattle.drawing.specs.declared.reason.Reason.TheVariants.{EdgeForm, TooManyEdges}
+use Rattle.drawing.specs.declared.reason.Reason.TheVariants.{TooManyEdges}
 use Rattle.drawing.specs.Lines.{edge_line, head_line, Drawn, drawn_as}
-use Rattle.drawing.specs.Drawings.{lines, Bad, before, edge_then, last_line, edges_from, with_edges, drawing_from, drawn}
+use Rattle.drawing.specs.Drawings.{lines, Bad, before, edge_then, edges_from, with_edges, drawing_from, drawn}
 use Rattle.drawing.proofs.Fields.{fields_some}
 
 -- what line n says, before what the lines after it say
@@ -67,25 +67,6 @@ module _ {text rest : List ℕ} {edges : List DrawnEdge} (old : Sofar text edges
 
     pub refused : (f : Reason) → Err f ≡ edge_line line → edges_from 2 (lines text) ≡ Err (length edges + 2, f)
     refused f e = by_next (Err f) e
-
-  -- no line is left
-  module _ (cut : lines rest ≡ rest ∷ []) where
-    by_last : (l : List ℕ) → rest ≡ l → edges_from 2 (lines text) ≡ grown (drawn edges) (last_line (length edges + 2) l)
-    by_last l is = old.same ∙ ap (λ ls. grown (drawn edges) (edges_from (length edges + 2) ls)) (cut ∙ ap (λ x. x ∷ []) is)
-
-    pub all_read : length rest ≡ 0 → edges_from 2 (lines text) ≡ Ok (drawn edges)
-    all_read none = go rest refl none
-      where
-        go : (l : List ℕ) → rest ≡ l → length l ≡ 0 → edges_from 2 (lines text) ≡ Ok (drawn edges)
-        go [] is e = by_last [] is ∙ ap (λ l. Ok l) (append-nil (drawn edges))
-        go (b ∷ bs) is e = absurd (omega arith)
-
-    pub cut_off : (length rest ≡ 0 → ⊥) → edges_from 2 (lines text) ≡ Err (length edges + 2, EdgeForm)
-    cut_off some = go rest refl some
-      where
-        go : (l : List ℕ) → rest ≡ l → (length l ≡ 0 → ⊥) → edges_from 2 (lines text) ≡ Err (length edges + 2, EdgeForm)
-        go [] is e = absurd (e refl)
-        go (b ∷ bs) is e = by_last (b ∷ bs) is
 
 -- a text that has a line
 pub drawing_is : (head rest : List ℕ) → drawing_from (head ∷ lines rest) ≡ with_edges (head_line head) (edges_from 2 (lines rest))

@@ -3,7 +3,7 @@ use Rattle.std.proofs.Common.{◌≡◌, ℕ, true, false, List, [], ◌∷◌, 
 use Rattle.std.specs.Str.{bytes_eq}
 use Rattle.std.proofs.lemmas.Slice.Eq.{bytes_eq-Decides}
 use Rattle.std.proofs.lemmas.Int.{ints}
-use Rattle.std.proofs.lemmas.Bool.{and_from, and_left, and_right, and_parts, both_ways, cases_Bool, cond-true, cond-false, le-leb, leb-true, or_left, or_right, or_from}
+use Rattle.std.proofs.lemmas.Bool.{and_from, and_left, and_right, and_parts, cases_Bool, cond-true, cond-false, le-leb, leb-true, or_left, or_right, or_from}
 use Rattle.plane.specs.Points.{Point, Ranged, before?}
 use Rattle.plane.specs.Edges.{Edge}
 use Rattle.plane.specs.Models.{MadeEdge, edge_of, edge_between}
@@ -58,7 +58,7 @@ pub not_before_itself : (p : Point) → before? p p ≡ false
 not_before_itself p = grind (arith, ints)
 
 pub ends_same : (p q : Point) (r : Result XSegment Fault) → is_ok r ≡ false → MadeEdge p q r → p ≡ q
-ends_same p q (Ok s) none made = absurd (both_ways true none refl)
+ends_same p q (Ok s) none made = cc
 ends_same p q (Err f) none made = made.1
 
 pub ends_equal : (p q : Point) → Ranged p → Ranged q → p ≡ q → edge_from p q ≡ Err EndsEqual

@@ -5,7 +5,7 @@ use Rattle.std.specs.Fmt.{signed_decimal}
 use Rattle.std.specs.Str.{all_ascii_digits}
 use Rattle.std.proofs.lemmas.Fmt.{decimal-digits_value, digits_value-decimal, digits_decimal, decimal_nonempty, first_decimal, decimal_digit}
 use Rattle.std.proofs.lemmas.Str.Parse.{IsNumeralModel, numerals_by_fold, tells_all_ascii_digits, not_in_digits}
-use Rattle.std.proofs.lemmas.Bool.{and_parts, and_from, not-true, not_from_false, cond_both, cond-true, cond-false, le-ltb, cases_eq, cases_lt, eqb-false, ltb-true, ltb-false, ne_eqb, true≢false, both_ways}
+use Rattle.std.proofs.lemmas.Bool.{and_parts, and_from, not-true, not_from_false, cond_both, cond-true, cond-false, le-ltb, cases_eq, cases_lt, eqb-false, ltb-true, ltb-false, ne_eqb, both_ways}
 use Rattle.std.proofs.lemmas.Bool.Decides.{nat_tests}
 use Rattle.drawing.specs.declared.number.NumberFault.{NumberFault}
 use Rattle.drawing.specs.declared.number.NumberFault.TheVariants.{Form, TooLarge}
@@ -17,7 +17,7 @@ own = numerals_by_fold _ tells_all_ascii_digits value_after (search rules)
 
 -- a numeral is the decimal form of its value
 numeral_written : (bs : List ℕ) → numeral? bs ≡ true → value bs < 2 ^ 64 → bs ≡ decimal (value bs)
-numeral_written [] is fits = absurd (true≢false (sym is))
+numeral_written [] is fits = cc
 numeral_written (b ∷ []) is fits = sym (decimal-digits_value own (b ∷ []) is (omega arith) (λ _. refl) fits)
 numeral_written (b ∷ c ∷ bs) is fits =
     let parts = and_parts _ (all_ascii_digits (b ∷ c ∷ bs)) is in
@@ -63,7 +63,7 @@ mag_minus (suc n) = omega arith
 
 -- a signed number is the decimal form of its value
 signed_written : (bs : List ℕ) → signed_numeral? bs ≡ true → mag (signed_value bs) < 2 ^ 31 → bs ≡ signed_decimal (signed_value bs)
-signed_written [] is fits = absurd (true≢false (sym is))
+signed_written [] is fits = cc
 signed_written (b ∷ bs) is fits = ⊎_elim minus plain (cases_eq b 45)
   where
     minus : b ≡ 45 → b ∷ bs ≡ signed_decimal (signed_value (b ∷ bs))

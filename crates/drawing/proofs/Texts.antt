@@ -1,5 +1,5 @@
 -- What is written is read, and what is read was written.
-use Rattle.std.proofs.Common.{◌≡◌, ℕ, zero, suc, ◌^◌, ◌<◌, ◌≤◌, true, false, ◌&&◌, List, [], ◌∷◌, ◌++◌, length, ℤ, pos, negsuc, nat_abs, is_ok, Ok, Err, decimal, Result, sym, refl, ap, ◌∙◌, subst, ⊎_elim, arith}
+use Rattle.std.proofs.Common.{◌≡◌, ℕ, zero, suc, ◌^◌, ◌<◌, ◌≤◌, true, false, ◌&&◌, List, [], ◌∷◌, ◌++◌, length, ℤ, pos, negsuc, nat_abs, Ok, Err, decimal, Result, sym, refl, ap, ◌∙◌, subst, ⊎_elim, arith}
 use lib.Signed.{mag}
 use Rattle.std.specs.Fmt.{signed_decimal}
 use Rattle.std.specs.Str.{bytes_eq}
@@ -7,13 +7,12 @@ use Rattle.std.proofs.lemmas.Slice.Eq.{bytes_eq-Decides}
 use Rattle.std.proofs.lemmas.Fmt.{digits_decimal, digits_value-decimal}
 use Rattle.std.proofs.lemmas.Str.Parse.{not_in_digits}
 use Rattle.std.proofs.lemmas.Int.{ints}
-use Rattle.std.proofs.lemmas.Bool.{and_from, and_parts, both_ways, cases_Bool, cond-true, cond-false, eq-eqb, false≢true, leb-true, lt-ltb, ne_eqb, or_from, or_parts}
+use Rattle.std.proofs.lemmas.Bool.{and_from, and_parts, both_ways, cases_Bool, cond-true, cond-false, eq-eqb, leb-true, lt-ltb, ne_eqb, or_from, or_parts}
 use Rattle.plane.specs.Points.{Point, Ranged, before?}
 use Rattle.drawing.specs.declared.drawn_edge.DrawnEdge.{DrawnEdge}
 use Rattle.drawing.specs.declared.number.NumberFault.{NumberFault}
 use Rattle.drawing.specs.declared.number.NumberFault.TheVariants.{Form, TooLarge}
 use Rattle.drawing.specs.declared.reason.Reason.{Reason}
-use Rattle.drawing.specs.declared.reason.Reason.TheVariants.{HeadForm}
 use Rattle.drawing.specs.Numbers.{value, unsigned_of, signed_of, signed_value, OnlyDecimal, OnlySigned}
 use Rattle.drawing.specs.Fields.{onto, fields}
 use Rattle.drawing.specs.Lines.{parts, exponent_of, head_of, head_line, together, two_points, ranged?, apart?, Drawn, drawn_between, drawn_as, edge_from, point, edge_with, edge_line, read_as}
@@ -106,15 +105,12 @@ head_read e fits =
     ap head_of (fields_cut 9 (decimal e) (80 ∷ []) (free_decimal 9 (omega arith) e (omega arith)))
     ∙ ap exponent_of (unsigned_back e fits)
 
-pub err_is_not_ok : {X Y : Type 0} (f : Y) (x : X) → ◌≡◌ {A = Result X Y} (Err f) (Ok x) → ⊥
-err_is_not_ok f x e = false≢true (ap is_ok e)
-
 together_ok : {X Y : Type 0} (a : Result X NumberFault) (b : Result Y NumberFault) (c : X × Y) → together a b ≡ Ok c → (a ≡ Ok c.0) × (b ≡ Ok c.1)
 together_ok (Ok a) (Ok b) c e = let same : (a, b) ≡ c = cc in (ap (λ x. Ok x.0) same, ap (λ x. Ok x.1) same)
-together_ok (Ok a) (Err f) c e = absurd (err_is_not_ok f c e)
-together_ok (Err f) (Ok b) c e = absurd (err_is_not_ok f c e)
-together_ok (Err Form) (Err g) c e = absurd (err_is_not_ok Form c e)
-together_ok (Err TooLarge) (Err g) c e = absurd (err_is_not_ok g c e)
+together_ok (Ok a) (Err f) c e = cc
+together_ok (Err f) (Ok b) c e = cc
+together_ok (Err Form) (Err g) c e = cc
+together_ok (Err TooLarge) (Err g) c e = cc
 
 signed_was : (bs : List ℕ) (z : ℤ) → signed_of bs ≡ Ok z → bs ≡ signed_decimal z
 signed_was bs z e = subst (OnlySigned bs) e (signed_only bs)
@@ -124,17 +120,17 @@ unsigned_was bs n e = subst (OnlyDecimal bs) e (unsigned_only bs)
 
 -- fields that read as two points are their four numbers
 points_were : (fs : List (List ℕ)) (c : (ℤ × ℤ) × (ℤ × ℤ)) → two_points fs ≡ Ok c → rejoined 9 fs ≡ edge_text (record { p = point c.0; q = point c.1 })
-points_were [] c e = absurd (err_is_not_ok Form c e)
-points_were (a ∷ []) c e = absurd (err_is_not_ok Form c e)
-points_were (a ∷ b ∷ []) c e = absurd (err_is_not_ok Form c e)
-points_were (a ∷ b ∷ d ∷ []) c e = absurd (err_is_not_ok Form c e)
+points_were [] c e = cc
+points_were (a ∷ []) c e = cc
+points_were (a ∷ b ∷ []) c e = cc
+points_were (a ∷ b ∷ d ∷ []) c e = cc
 points_were (a ∷ b ∷ d ∷ f ∷ []) c e =
     let halves = together_ok (together (signed_of a) (signed_of b)) (together (signed_of d) (signed_of f)) c e in
     let first = together_ok (signed_of a) (signed_of b) c.0 halves.0 in
     let second = together_ok (signed_of d) (signed_of f) c.1 halves.1 in
     λ i. signed_was a c.0.0 first.0 i ++ (9 ∷ (signed_was b c.0.1 first.1 i
     ++ (9 ∷ (signed_was d c.1.0 second.0 i ++ (9 ∷ signed_was f c.1.1 second.1 i)))))
-points_were (a ∷ b ∷ d ∷ f ∷ g ∷ fs) c e = absurd (err_is_not_ok Form c e)
+points_were (a ∷ b ∷ d ∷ f ∷ g ∷ fs) c e = cc
 
 ranged_was : (p : Point) → ranged? p ≡ true → Ranged p
 ranged_was p is = let both = and_parts _ _ is in record { wide = leb-true _ _ both.0; high = leb-true _ _ both.1 }
@@ -154,9 +150,9 @@ from_was p q e is =
       },
       cc,
     ))
-    (λ none. absurd (err_is_not_ok _ e (sym (cond-true _ _ _ ranged ∙ cond-false _ _ _ none) ∙ is)))
+    (λ none. cc (sym (cond-true _ _ _ ranged ∙ cond-false _ _ _ none) ∙ is))
     (cases_Bool (apart? p q)))
-    (λ none. absurd (err_is_not_ok _ e (sym (cond-false _ _ _ none) ∙ is)))
+    (λ none. cc (sym (cond-false _ _ _ none) ∙ is))
     (cases_Bool (ranged? p && ranged? q))
 
 -- a line that says an edge is the text of two such points
@@ -172,7 +168,7 @@ edge_was line e is = by (two_points (parts line)) refl is
           text = sym (rejoined_fields 9 line) ∙ points_were (parts line) c points;
           edge = was.1;
         }
-    by (Err f) points said = absurd (err_is_not_ok _ e said)
+    by (Err f) points said = cc
 
 -- a first line that says an exponent is its text
 pub head_was : (line : List ℕ) (e : ℕ) → head_line line ≡ Ok e → line ≡ head_text e
@@ -180,25 +176,25 @@ head_was line e is = sym (rejoined_fields 9 line) ∙ by (parts line) is
   where
     exponent_was : (r : Result ℕ NumberFault) → exponent_of r ≡ Ok e → r ≡ Ok e
     exponent_was (Ok n) said = ap (λ x. Ok x) (cc)
-    exponent_was (Err f) said = absurd (err_is_not_ok _ e said)
+    exponent_was (Err f) said = cc
 
     by : (fs : List (List ℕ)) → head_of fs ≡ Ok e → rejoined 9 fs ≡ head_text e
-    by [] said = absurd (err_is_not_ok HeadForm e said)
-    by (a ∷ []) said = absurd (err_is_not_ok HeadForm e said)
+    by [] said = cc
+    by (a ∷ []) said = cc
     by (a ∷ b ∷ []) said =
         ⊎_elim
         (λ letter.
         let number = exponent_was (unsigned_of a) (sym (cond-true _ _ _ letter) ∙ said) in
         λ i. unsigned_was a e number i ++ (9 ∷ (bytes_eq-Decides b (80 ∷ [])).0 letter i))
-        (λ other. absurd (err_is_not_ok HeadForm e (sym (cond-false _ _ _ other) ∙ said)))
+        (λ other. cc (sym (cond-false _ _ _ other) ∙ said))
         (cases_Bool (bytes_eq b (80 ∷ [])))
-    by (a ∷ b ∷ c ∷ fs) said = absurd (err_is_not_ok HeadForm e said)
+    by (a ∷ b ∷ c ∷ fs) said = cc
 
 -- what a reading says of a line is exact
 pub head_only : (line : List ℕ) (r : Result ℕ Reason) → r ≡ head_line line → OnlyHead line r
 head_only line (Ok e) said = head_was line e (sym said)
-head_only line (Err f) said = λ e fits is. err_is_not_ok f e (said ∙ ap head_line is ∙ head_read e fits)
+head_only line (Err f) said = λ e fits is. cc (said ∙ ap head_line is ∙ head_read e fits)
 
 pub edge_only : (line : List ℕ) (r : Result DrawnEdge Reason) → read_as r ≡ edge_line line → OnlyEdge line r
 edge_only line (Ok d) said = edge_was line (drawn_as d) (sym said)
-edge_only line (Err f) said = λ c sound is. err_is_not_ok f (drawn_with_ends c) (said ∙ ap edge_line is ∙ edge_read c sound)
+edge_only line (Err f) said = λ c sound is. cc (said ∙ ap edge_line is ∙ edge_read c sound)

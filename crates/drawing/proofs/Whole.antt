@@ -13,7 +13,7 @@ use Rattle.drawing.specs.Drawings.{lines, Bad, edge_then, last_line, edges_from,
 use Rattle.drawing.specs.Texts.{head_text, Ends, Sound, edge_text, drawn_with_ends, drawing_text, DrawingWritten, OnlyDrawing}
 use Rattle.drawing.proofs.Fields.{Free, rejoined, rejoined_fields}
 use Rattle.drawing.proofs.Drawings.{edges_next, drawing_is}
-use Rattle.drawing.proofs.Texts.{fields_cut, free_decimal, free_signed, free_append, free_cons, mag_small, err_is_not_ok, edge_read, head_read, edge_was, head_was}
+use Rattle.drawing.proofs.Texts.{fields_cut, free_decimal, free_signed, free_append, free_cons, mag_small, edge_read, head_read, edge_was, head_was}
 
 abbrev ended : List ℕ → List ℕ
 ended line = line ++ (10 ∷ [])
@@ -71,22 +71,22 @@ record ThenWas (n : ℕ) (said : Result Drawn Reason) (rest : Result (List Drawn
   all : es ≡ edge ∷ others
 
 then_was : (n : ℕ) (said : Result Drawn Reason) (rest : Result (List Drawn) Bad) (es : List Drawn) → edge_then n said rest ≡ Ok es → ThenWas n said rest es
-then_was n (Err f) rest es is = absurd (err_is_not_ok _ es is)
+then_was n (Err f) rest es is = cc
 then_was n (Ok e) (Err f) es is =
-    ⊎_elim (λ room. absurd (err_is_not_ok f es (sym (cond-true _ _ _ room) ∙ is)))
-    (λ none. absurd (err_is_not_ok _ es (sym (cond-false _ _ _ none) ∙ is)))
+    ⊎_elim (λ room. cc (sym (cond-true _ _ _ room) ∙ is))
+    (λ none. cc (sym (cond-false _ _ _ none) ∙ is))
     (cases_Bool (leb n 4097))
 then_was n (Ok e) (Ok others) es is =
     ⊎_elim
     (λ room.
     let made = sym (cond-true _ _ _ room) ∙ is in
     record { edge = e; others = others; here = refl; there = refl; room = leb-true n 4097 room; all = cc })
-    (λ none. absurd (err_is_not_ok _ es (sym (cond-false _ _ _ none) ∙ is)))
+    (λ none. cc (sym (cond-false _ _ _ none) ∙ is))
     (cases_Bool (leb n 4097))
 
 last_was : (n : ℕ) (l : List ℕ) (es : List Drawn) → last_line n l ≡ Ok es → (l ≡ []) × (es ≡ [])
 last_was n [] es is = (refl, cc)
-last_was n (b ∷ bs) es is = absurd (err_is_not_ok _ es is)
+last_was n (b ∷ bs) es is = cc
 
 lines_were : (n : ℕ) (ls : List (List ℕ)) (es : List Drawn) → edges_from n ls ≡ Ok es → LinesWere n ls es
 lines_were n [] es is = record { ends = []; sound = tt; few = inl refl; whole = refl; edges = cc }
@@ -107,15 +107,15 @@ lines_were n (l ∷ m ∷ ls) es is =
 
 with_was : (head : Result ℕ Reason) (rest : Result (List Drawn) Bad) (e : ℕ) (es : List Drawn) → with_edges head rest ≡ Ok (e, es) → (head ≡ Ok e) × (rest ≡ Ok es)
 with_was (Ok n) (Ok others) e es is = let same : ◌≡◌ {A = ℕ × List Drawn} (n, others) (e, es) = cc in (ap (λ x. Ok x.0) same, ap (λ x. Ok x.1) same)
-with_was (Ok n) (Err f) e es is = absurd (err_is_not_ok f _ is)
-with_was (Err f) rest e es is = absurd (err_is_not_ok _ _ is)
+with_was (Ok n) (Err f) e es is = cc
+with_was (Err f) rest e es is = cc
 
 drawing_was : (text : List ℕ) (e : ℕ) (es : List Drawn) → drawing_of text ≡ Ok (e, es) → DrawingWritten text e es
 drawing_was text e es is = by (lines text) (rejoined_fields 10 text) is
   where
     by : (ls : List (List ℕ)) → rejoined 10 ls ≡ text → drawing_from ls ≡ Ok (e, es) → DrawingWritten text e es
-    by [] of said = absurd (err_is_not_ok _ _ said)
-    by (l ∷ []) of said = absurd (err_is_not_ok _ _ said)
+    by [] of said = cc
+    by (l ∷ []) of said = cc
     by (l ∷ m ∷ ls) of said =
         let was = with_was (head_line l) (edges_from 2 (m ∷ ls)) e es said in
         let rest = lines_were 2 (m ∷ ls) es was.1 in
@@ -132,5 +132,5 @@ drawing_was text e es is = by (lines text) (rejoined_fields 10 text) is
 -- what a reading tells of a text is exact
 pub drawing_only : (text : List ℕ) (r : Result Drawing DrawingFault) → Tells r (drawing_of text) → OnlyDrawing text r
 drawing_only text (Ok d) told = drawing_was text d.exponent (drawn_in d) told
-drawing_only text (Err (Line n f)) told = λ e cs fits sound few is. err_is_not_ok _ _ (sym told ∙ ap drawing_of is ∙ drawing_read e cs fits sound few)
+drawing_only text (Err (Line n f)) told = λ e cs fits sound few is. cc (sym told ∙ ap drawing_of is ∙ drawing_read e cs fits sound few)
 drawing_only text (Err Memory) told = tt

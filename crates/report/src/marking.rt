@@ -27,16 +27,25 @@ pub struct Marking {
     pub is_rounded: bool,
 }
 
+/// Edges that are crossed with one another, and the radius within which a crossing is taken to an end.
+#[derive(Clone, Copy)]
+struct Crossings<'a> {
+    edges: &'a [DrawnEdge],
+    radius: SnapRadius,
+}
+
 /// The marks of a drawing. Where a table is too short, one twice as long is filled from the start.
 pub fn mark_drawing(heap: Global, drawing: &Drawing) -> Result<Marking, AllocError>
     ensures { IfOk result (λ m. Marked drawing.now.exponent (edges_of drawing.now.edges.items) m.marks.items m.is_rounded × Alone) }
 {
-    let edges = drawing.edges.as_slice();
-    let radius = SnapRadius::new(drawing.exponent, 0);
-    let mut room = FEWEST_PLACES.max(4 * edges.len());
+    let crossings = Crossings {
+        edges: drawing.edges.as_slice(),
+        radius: SnapRadius::new(drawing.exponent, 0),
+    };
+    let mut room = FEWEST_PLACES.max(4 * drawing.edges.len());
     // Stays: an iterator of doubled numbers, `successors`, has no end that is proved, and a range of powers begins at no multiple of the edges.
     while room <= MOST_PLACES {
-        if let Some(marking) = mark_within(heap, edges, radius, room)? {
+        if let Some(marking) = crossings.mark_within(heap, room)? {
             return Ok(marking);
         }
         room *= 2;
@@ -44,58 +53,50 @@ pub fn mark_drawing(heap: Global, drawing: &Drawing) -> Result<Marking, AllocErr
     Err(AllocError)
 }
 
-/// The marks by a table of some places; none where they are too few.
-fn mark_within(
-    heap: Global,
-    edges: &[DrawnEdge],
-    radius: SnapRadius,
-    room: usize,
-) -> Result<Option<Marking>, AllocError>
-    ensures { IfOk result (λ o. IfSome o (λ m. Marked radius.current (edges_of edges.now) m.marks.items m.is_rounded)) }
-{
-    let mut places = vec![in heap; LineMark::blank(); room]?;
-    let mut table = OrderedTable::open(places.as_mut_slice(), room);
-    let Ok(is_rounded) = mark_all(&mut table, edges, radius) else {
-        return Ok(None);
-    };
-    let marks = Vec::from_slice(heap, table.records())?;
-    Ok(Some(Marking { marks, is_rounded }))
-}
-
-/// Adds the marks of all crossings, edge after edge, so that a mark comes to the end of the table or not far from it.
-fn mark_all(
-    table: &mut OrderedTable<'_, LineMark>,
-    edges: &[DrawnEdge],
-    radius: SnapRadius,
-) -> Result<bool, NoRoom>
-    ensures marks { OnOk result (Come (all_marks radius.current (edges_of edges.now) 0 (edges_of edges.now)) (records_of table.old) (records_of table.new)) }
-    ensures rounded { IfOk result (λ told. told ≡ any_rounded? radius.current (edges_of edges.now) (edges_of edges.now)) }
-{
-    let mut is_rounded = false;
-    for (index, drawn) in edges.iter().enumerate() {
-        is_rounded |= mark_edge(table, index, &drawn.edge, edges, radius)?;
+impl Crossings<'_> {
+    /// The marks by a table of some places; none where they are too few.
+    fn mark_within(&self, heap: Global, room: usize) -> Result<Option<Marking>, AllocError>
+        ensures { IfOk result (λ o. IfSome o (λ m. Marked self.now.radius.current (edges_of self.now.edges.now) m.marks.items m.is_rounded)) }
+    {
+        let mut places = vec![in heap; LineMark::blank(); room]?;
+        let mut table = OrderedTable::open(places.as_mut_slice(), room);
+        let Ok(is_rounded) = self.mark_all(&mut table) else {
+            return Ok(None);
+        };
+        let marks = Vec::from_slice(heap, table.records())?;
+        Ok(Some(Marking { marks, is_rounded }))
     }
-    Ok(is_rounded)
-}
 
-/// Adds the marks on an edge of its crossings with all edges, and tells whether one of them was rounded.
-fn mark_edge(
-    table: &mut OrderedTable<'_, LineMark>,
-    index: usize,
-    edge: &XSegment,
-    edges: &[DrawnEdge],
-    radius: SnapRadius,
-) -> Result<bool, NoRoom>
-    ensures marks { OnOk result (Come (marks_on radius.current index (edge_of edge.now) (edges_of edges.now)) (records_of table.old) (records_of table.new)) }
-    ensures rounded { IfOk result (λ told. told ≡ rounded_on? radius.current (edge_of edge.now) (edges_of edges.now)) }
-{
-    let mut is_rounded = false;
-    for other in edges {
-        let crossed = CrossSolver::marks(edge, &other.edge, radius);
-        add_marks(table, index, crossed.first)?;
-        is_rounded |= crossed.is_round;
+    /// Adds all marks, edge after edge, so that a mark comes to the end of the table or not far from it, and tells whether a crossing was rounded.
+    fn mark_all(&self, table: &mut OrderedTable<'_, LineMark>) -> Result<bool, NoRoom>
+        ensures marks { OnOk result (Come (all_marks self.now.radius.current (edges_of self.now.edges.now) 0 (edges_of self.now.edges.now)) (records_of table.old) (records_of table.new)) }
+        ensures rounded { IfOk result (λ told. told ≡ any_rounded? self.now.radius.current (edges_of self.now.edges.now) (edges_of self.now.edges.now)) }
+    {
+        let mut is_rounded = false;
+        for (index, drawn) in self.edges.iter().enumerate() {
+            is_rounded |= self.mark_edge(table, index, &drawn.edge)?;
+        }
+        Ok(is_rounded)
     }
-    Ok(is_rounded)
+
+    /// Adds the marks on one edge, and tells whether a crossing of it was rounded.
+    fn mark_edge(
+        &self,
+        table: &mut OrderedTable<'_, LineMark>,
+        index: usize,
+        edge: &XSegment,
+    ) -> Result<bool, NoRoom>
+        ensures marks { OnOk result (Come (marks_on self.now.radius.current index (edge_of edge.now) (edges_of self.now.edges.now)) (records_of table.old) (records_of table.new)) }
+        ensures rounded { IfOk result (λ told. told ≡ rounded_on? self.now.radius.current (edge_of edge.now) (edges_of self.now.edges.now)) }
+    {
+        let mut is_rounded = false;
+        for other in self.edges {
+            let crossed = CrossSolver::marks(edge, &other.edge, self.radius);
+            add_marks(table, index, crossed.first)?;
+            is_rounded |= crossed.is_round;
+        }
+        Ok(is_rounded)
+    }
 }
 
 /// Adds the marks of one crossing on an edge.

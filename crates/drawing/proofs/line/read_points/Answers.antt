@@ -1,5 +1,4 @@
 use Rattle.std.proofs.Common.{◌≡◌, ℕ, true, List, ◌∷◌, is_some, Some, None, Err, Option, sym, ap, ◌∙◌, subst, Bor}
-use Rattle.std.proofs.lemmas.Bool.{true≢false}
 use Rattle.drawing.specs.declared.number.NumberFault.TheVariants.{Form}
 use Rattle.drawing.specs.Fields.{fields, Cuts}
 use Rattle.drawing.specs.Lines.{two_points}
@@ -7,7 +6,7 @@ use Rattle.drawing.proofs.Lines.{points_more}
 use Rattle.drawing.proofs.line.read_points.Goals as goal
 
 fifth : (a b c d : List ℕ) (o : Option (Bor (List ℕ) × Bor (List ℕ))) → Cuts 9 d o → true ≡ is_some o → two_points (a ∷ b ∷ c ∷ fields 9 d) ≡ Err Form
-fifth a b c d None cut some = absurd (true≢false some)
+fifth a b c d None cut some = cc
 fifth a b c d (Some x) cut some = ap (λ l. two_points (a ∷ b ∷ c ∷ l)) cut.0 ∙ points_more a b c x.0.now x.1.now
 
 pub returns-then-is_some : goal.returns-then-is_some
