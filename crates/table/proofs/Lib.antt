@@ -4,4 +4,5 @@ pub mod Orders
 pub mod Edited
 pub mod Placing
 pub mod Laws
+pub mod Searches
 pub mod Soundness

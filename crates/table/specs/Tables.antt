@@ -1,10 +1,12 @@
 -- What an ordered table holds.
 use Rattle.std.specs.Prelude.{List}
 use Rattle.table.specs.Contents.{Content, content, records}
+use Rattle.table.specs.declared.keyed.Keyed.{Ghosts}
 use Rattle.table.specs.declared.ordered_table.OrderedTable.{OrderedTable}
 
-abbrev pub content_of : {R : Type 0} → OrderedTable R → Content R
-content_of t = content t.places.now t.used t.room
+module _ {R : Type 0} {G : Ghosts R} where
+  abbrev pub content_of : OrderedTable R G → Content R
+  content_of t = content t.places.now t.used t.room
 
-abbrev pub records_of : {R : Type 0} → OrderedTable R → List R
-records_of t = records (content_of t)
+  abbrev pub records_of : OrderedTable R G → List R
+  records_of t = records (content_of t)

@@ -2,5 +2,6 @@
 #![tactic(auto)]
 
 pub mod keyed;
+pub mod no_room;
 pub mod ordered_table;
 pub mod places;

@@ -1,38 +1,25 @@
 //! How records move within the places of a table.
-ghost use Rattle.std.specs.Prelude.{◌≡◌, ℕ, ◌+◌, ◌-◌, ◌<◌, ◌≤◌, ◌∷◌, length, take, drop, replicate, MatchOption, ◌≢◌, slice_index_or};
-ghost use Rattle.std.specs.declared.cmp.Ordering.TheVariants.{Less, Equal};
+ghost use Rattle.std.specs.Prelude.{◌≡◌, ℕ, ◌+◌, ◌-◌, ◌<◌, ◌≤◌, ◌∷◌, length, take, drop, replicate, MatchOption, MatchResult};
 ghost use Rattle.std.specs.List.{insert, remove};
 ghost use Rattle.table.specs.Contents.{Came, Refused, content};
+ghost use Rattle.table.specs.Search.{Searched};
 
 use crate::keyed::Keyed;
+use crate::no_room::NoRoom;
 use std::cmp::Ordering;
 
-// The first place whose record is not before r, if the used places are in order. The end is tried first.
-fn place<R: Keyed>(table: &[R], used: usize, r: R) -> usize
-    requires { used ≤ length table.now }
-    ensures within { result ≤ used }
-    ensures before { (k : ℕ) → k + 1 ≡ result → R.Keyed.kind.order (slice_index_or table.now k r) r ≡ Less }
-    ensures here { result < used → R.Keyed.kind.order (slice_index_or table.now result r) r ≢ Less }
+// Where the record with the key of r stands, or where r belongs. The end is tried first, since most records come there.
+fn search<R: Keyed>(records: &[R], r: R) -> Result<usize, usize>
+    ensures { Searched R.Keyed.kind r records.now result }
 {
-    if used == 0 {
-        return 0;
-    }
-    let last = table[used - 1];
+    let Some(last) = records.last() else {
+        return Err(0);
+    };
     match last.compare(r) {
-        Ordering::Less => return used,
-        _ => {}
+        Ordering::Less => Err(records.len()),
+        Ordering::Equal => Ok(records.len() - 1),
+        Ordering::Greater => records.binary_search_by(|record| record.compare(r)),
     }
-    let mut low = 0;
-    let mut high = used - 1;
-    while low < high {
-        let middle = low + (high - low) / 2;
-        let record = table[middle];
-        match record.compare(r) {
-            Ordering::Less => low = middle + 1,
-            _ => high = middle,
-        }
-    }
-    low
 }
 
 // r at the place i, and the records from there on one place further.
@@ -57,47 +44,37 @@ fn close_at<R: Keyed>(table: &mut [R], used: usize, i: usize)
     table[used - 1] = R::blank();
 }
 
-// The record at the place i, if it has the key of r.
-fn found<R: Keyed>(table: &[R], used: usize, i: usize, r: R) -> Option<R>
-    requires { used ≤ length table.now }
-    ensures { MatchOption result (i < used → R.Keyed.kind.order (slice_index_or table.now i r) r ≢ Equal) (λ x. (i < used) × (x ≡ slice_index_or table.now i r) × (R.Keyed.kind.order x r ≡ Equal)) }
-{
-    if i >= used {
-        return None;
-    }
-    let record = table[i];
-    match record.compare(r) {
-        Ordering::Equal => Some(record),
-        _ => None,
-    }
-}
-
-// Brings r to its place in a table whose numbers fit.
-fn bring<R: Keyed>(table: &mut [R], used: usize, room: usize, r: R) -> Option<usize>
+// Brings r to its place among the first `used` records. How many there are then.
+pub(crate) fn bring<R: Keyed>(
+    table: &mut [R],
+    used: usize,
+    room: usize,
+    r: R,
+) -> Result<usize, NoRoom>
     requires fits { used ≤ room }
     requires roomy { room ≤ length table.old }
-    ensures { MatchOption result (Refused R.Keyed.kind r (content table.old used room) (content table.new used room)) (λ m. Came R.Keyed.kind r (content table.old used room) (content table.new m room)) }
+    ensures { MatchResult result (λ m. Came R.Keyed.kind r (content table.old used room) (content table.new m room)) (λ _. Refused R.Keyed.kind r (content table.old used room) (content table.new used room)) }
 {
-    let i = place(table, used, r);
-    match found(table, used, i, r) {
-        Some(old) => {
+    match search(&table[..used], r) {
+        Ok(i) => {
+            let old = table[i];
             let both = old.join(r);
             if both.is_not_empty() {
                 table[i] = both;
-                Some(used)
+                Ok(used)
             } else {
                 close_at(table, used, i);
-                Some(used - 1)
+                Ok(used - 1)
             }
         }
-        None => {
+        Err(i) => {
             if !r.is_not_empty() {
-                Some(used)
+                Ok(used)
             } else if used < room {
                 open_at(table, used, i, r);
-                Some(used + 1)
+                Ok(used + 1)
             } else {
-                None
+                Err(NoRoom)
             }
         }
     }
@@ -111,7 +88,7 @@ pub fn insert<R: Keyed>(table: &mut [R], used: usize, room: usize, r: R) -> Opti
     if used > room || room > table.len() {
         return None;
     }
-    bring(table, used, room, r)
+    bring(table, used, room, r).ok()
 }
 
 /// Every place blank.
