@@ -6,3 +6,4 @@ pub mod Placing
 pub mod Laws
 pub mod Searches
 pub mod Soundness
+pub mod Replacing

@@ -1,9 +1,9 @@
 -- From the place that was found for a record to what its coming makes of the table.
-use Rattle.std.proofs.Common.{◌≡◌, ℕ, zero, suc, ◌+◌, ◌-◌, ◌<◌, ◌≤◌, true, false, cond, not, List, [], ◌∷◌, ◌++◌, length, get_or, take, drop, set, replicate, Some, None, Ordering, Less, Equal, Greater, sym, refl, ap, ◌∙◌, subst, ⊎_elim, add-one, arith}
+use Rattle.std.proofs.Common.{◌≡◌, ℕ, suc, ◌+◌, ◌-◌, ◌<◌, ◌≤◌, true, false, cond, not, List, ◌∷◌, ◌++◌, length, get_or, take, drop, set, replicate, Some, None, Less, Equal, Greater, sym, refl, ap, ◌∙◌, subst, add-one, arith}
 use Rattle.std.specs.List.{insert, remove, HoldsAt}
 use Rattle.std.proofs.ByRecursion.{All-weaker}
-use Rattle.std.proofs.lemmas.List.{drop_all, drop_more, get_or-take, length-take-le, length-set, set-append_left, set_split, take-append-drop, drop-drop, drop-replicate}
-use Rattle.std.proofs.lemmas.Bool.{both_ways, cases_lt, not-true, not-false}
+use Rattle.std.proofs.lemmas.List.{drop_more, get_or-take, length-take-le, length-set, set-append_left, set_split, take-append-drop, drop-drop, drop-replicate}
+use Rattle.std.proofs.lemmas.Bool.{both_ways, not-true, not-false}
 use Rattle.table.specs.Records.{RecordKind}
 use Rattle.table.specs.Listings.{Ascending, standing}
 use Rattle.table.specs.Search.{Parts}

@@ -54,3 +54,16 @@ module _ {R : Type 0} where
   -- what a coming of r answers, and leaves
   abbrev pub Answers : {T E : Type 0} → RecordKind R → R → Content R → Content R → Result T E → Type 0
   Answers K r before after a = MatchResult a (λ _. Came K r before after) (λ _. Refused K r before after)
+
+  -- other records stand in the first places, and all behind them are blank if those behind the first `used` ones were
+  pub record Replaced (K : RecordKind R) (xs : List R) (used : ℕ) (before after : List R) : Type 0 where
+    pub listed : take (length xs) after ≡ xs
+    pub blank : drop used before ≡ replicate (length before - used) K.blank → drop (length xs) after ≡ replicate (length after - length xs) K.blank
+    pub long : length after ≡ length before
+
+  -- a table takes the records of another, which is left with blank places
+  pub record TookOver (K : RecordKind R) (before other after left : Content R) : Type 0 where
+    pub listed : records after ≡ records other
+    pub room : after.room ≡ before.room
+    pub long : length after.places ≡ length before.places
+    pub emptied : left ≡ unused K (length other.places) other.room

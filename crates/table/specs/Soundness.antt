@@ -1,7 +1,6 @@
 -- A table is sound in one way, so that its type can hold that it is.
-use Rattle.std.specs.Prelude.{◌≡◌, ◌-◌, ◌≤◌, Bool, false, List, [], ◌∷◌, length, drop, replicate, refl}
+use Rattle.std.specs.Prelude.{◌≡◌, ◌-◌, ◌≤◌, false, List, [], ◌∷◌, length, drop, replicate, refl}
 use Rattle.std.specs.declared.cmp.Ordering.TheVariants.{Less}
-use Rattle.std.specs.declared.cmp.Ordering.{Ordering}
 use Rattle.std.specs.Ordering.{Ordering-set}
 use Rattle.std.specs.List.{AllByRecursion}
 use Rattle.table.specs.Records.{RecordKind}

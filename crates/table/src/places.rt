@@ -1,7 +1,7 @@
 //! How records move within the places of a table.
 ghost use Rattle.std.specs.Prelude.{◌≡◌, ℕ, ◌+◌, ◌-◌, ◌<◌, ◌≤◌, ◌∷◌, length, take, drop, replicate, MatchOption, MatchResult};
 ghost use Rattle.std.specs.List.{insert, remove};
-ghost use Rattle.table.specs.Contents.{Came, Refused, content};
+ghost use Rattle.table.specs.Contents.{Came, Refused, Replaced, content};
 ghost use Rattle.table.specs.Search.{Searched};
 
 use crate::keyed::Keyed;
@@ -89,6 +89,19 @@ pub fn insert<R: Keyed>(table: &mut [R], used: usize, room: usize, r: R) -> Opti
         return None;
     }
     bring(table, used, room, r).ok()
+}
+
+// Other records in place of the first `used` ones; the places that these leave are blank.
+pub(crate) fn replace<R: Keyed>(table: &mut [R], used: usize, records: &[R])
+    requires used { used ≤ length table.old }
+    requires fits { length records.now ≤ length table.old }
+    ensures { Replaced R.Keyed.kind records.now used table.old table.new }
+{
+    let count = records.len();
+    table[..count].copy_from_slice(records);
+    if count < used {
+        blank_all(&mut table[count..used]);
+    }
 }
 
 /// Every place blank.

@@ -1,13 +1,13 @@
 //! Opening an ordered table, bringing records to it, and reading it.
-ghost use Rattle.std.specs.Prelude.{◌≡◌, ◌<◌, ◌≤◌, min, length, MatchOption, slice_index_or};
-ghost use Rattle.table.specs.Contents.{Answers, unused};
+ghost use Rattle.std.specs.Prelude.{◌≡◌, ◌<◌, ◌≤◌, min, length, MatchOption, MatchResult, nat_le, ◌+◌, slice_index_or};
+ghost use Rattle.table.specs.Contents.{Answers, TookOver, unused};
 ghost use Rattle.table.specs.Laws.{ListingLaws};
 ghost use Rattle.table.specs.Tables.{content_of, records_of};
 
 use crate::keyed::Keyed;
 use crate::no_room::NoRoom;
 use crate::ordered_table::OrderedTable;
-use crate::places::{blank_all, bring};
+use crate::places::{blank_all, bring, replace};
 
 impl<'a, R: Keyed> OrderedTable<'a, R> {
     /// An empty table with blank places, of which at most `room` will be used.
@@ -45,13 +45,19 @@ impl<'a, R: Keyed> OrderedTable<'a, R> {
         self.records().get(i).copied()
     }
 
+    /// Whether so many new keys more find room.
+    pub fn has_room_for(&self, more: usize) -> bool
+        ensures { result ≡ nat_le (length (records_of self.now) + more) self.now.room }
+    {
+        more <= self.room - self.used
+    }
+
     /// Brings r to its place: joined with the record that has its key, or at a place of its own.
     pub fn insert(&mut self, r: R) -> Result<(), NoRoom>
         ensures { Answers R.Keyed.kind r (content_of self.old) (content_of self.new) result }
     {
-        let OrderedTable { places, used, room } = self;
-        let n = bring(places, *used, *room, r)?;
-        *used = n;
+        let n = bring(self.places, self.used, self.room, r)?;
+        self.used = n;
         Ok(())
     }
 
@@ -59,8 +65,21 @@ impl<'a, R: Keyed> OrderedTable<'a, R> {
     pub fn clear(&mut self)
         ensures { content_of self.new ≡ unused R.Keyed.kind (length self.old.places.now) self.old.room }
     {
-        let OrderedTable { places, used, .. } = self;
-        blank_all(places);
-        *used = 0;
+        blank_all(&mut self.places[..self.used]);
+        self.used = 0;
+    }
+
+    /// Takes the records of another table in place of its own, and leaves it none. Refused where they are more than there is room for.
+    pub fn take_over(&mut self, other: &mut OrderedTable<'_, R>) -> Result<(), NoRoom>
+        ensures { MatchResult result (λ _. TookOver R.Keyed.kind (content_of self.old) (content_of other.old) (content_of self.new) (content_of other.new)) (λ _. (self.old.room < length (records_of other.old)) × (content_of self.new ≡ content_of self.old) × (content_of other.new ≡ content_of other.old)) }
+    {
+        let count = other.len();
+        if count > self.room {
+            return Err(NoRoom);
+        }
+        replace(self.places, self.used, other.records());
+        self.used = count;
+        other.clear();
+        Ok(())
     }
 }

@@ -1,7 +1,4 @@
 -- What `open` ensures.
-use Rattle.std.proofs.Common.{◌≡◌, ℕ, min, length, ap, ◌∙◌, arith}
-use Rattle.table.specs.Contents.{content, unused}
-use Rattle.table.specs.Records.{RecordKind}
 use Rattle.table.proofs.Laws.{listing_laws}
 use Rattle.table.proofs.Soundness.{sound_opened, opened}
 use Rattle.table.proofs.ordered_table.OrderedTable.open.Goals as goal
