@@ -5,14 +5,14 @@ ghost use Rattle.segm.specs.Marked.{Marked, MarksDetermine, with_mark};
 ghost use Rattle.segm.specs.SegmentKind.{segment_kind};
 ghost use Rattle.segm.specs.declared.line_mark.LineMark.{LineMark as Mark};
 ghost use Rattle.std.specs.Prelude.{Bool, OnOk};
-ghost use Rattle.table.specs.Contents.{Answers, Sound};
-ghost use Rattle.table.specs.Listings.{Ordered};
+ghost use Rattle.table.specs.Contents.{Answers};
 ghost use Rattle.table.specs.Tables.{content_of, records_of};
 
 use crate::line_mark::LineMark;
 use crate::segment::Segment;
 use crate::winding::WindingCount;
-use table::ordered_table::{NoRoom, OrderedTable};
+use table::no_room::NoRoom;
+use table::ordered_table::OrderedTable;
 
 /// Brings a segment to its place: its count is added to that of the edge with its ends, and an empty sum leaves nothing.
 pub fn join_segment<C: WindingCount>(
@@ -20,8 +20,7 @@ pub fn join_segment<C: WindingCount>(
     s: Segment<C>,
 ) -> Result<(), NoRoom>
     ensures answer { Answers (segment_kind C.WindingCount.kind) s (content_of edges.old) (content_of edges.new) result }
-    ensures sound { Sound (segment_kind C.WindingCount.kind) (content_of edges.old) → Sound (segment_kind C.WindingCount.kind) (content_of edges.new) }
-    ensures adds { Ordered (segment_kind C.WindingCount.kind) (records_of edges.old) → OnOk result (Adds C.WindingCount.kind s (records_of edges.old) (records_of edges.new)) }
+    ensures adds { OnOk result (Adds C.WindingCount.kind s (records_of edges.old) (records_of edges.new)) }
     ensures determined { CountsDetermine C.WindingCount.kind }
 {
     edges.insert(s)
@@ -30,7 +29,6 @@ pub fn join_segment<C: WindingCount>(
 /// Brings a mark to its place, where there may be an equal one already.
 pub fn join_mark(marks: &mut OrderedTable<'_, LineMark>, m: LineMark) -> Result<(), NoRoom>
     ensures answer { Answers mark_kind m (content_of marks.old) (content_of marks.new) result }
-    ensures sound { Sound mark_kind (content_of marks.old) → Sound mark_kind (content_of marks.new) }
     ensures marked { OnOk result ((P : Mark → Bool) → Marked P (records_of marks.old) → Marked (with_mark m P) (records_of marks.new)) }
     ensures determined { MarksDetermine }
 {

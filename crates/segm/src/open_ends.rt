@@ -1,17 +1,16 @@
 //! How many points are open: those whose balance is not empty.
 ghost use Rattle.std.specs.Prelude.{◌≡◌, ◌*◌, ◌<◌, length, replicate, MatchResult};
 ghost use Rattle.segm.specs.Balance.{balance, brings};
-ghost use Rattle.segm.specs.CornerKind.{corner_kind};
 ghost use Rattle.segm.specs.Corners.{blank_corner, begins_of, ends_at};
 ghost use Rattle.segm.specs.Held.{Grows, counts_at};
 ghost use Rattle.segm.specs.Open.{Open, OpenDetermines};
-ghost use Rattle.table.specs.Contents.{Sound};
 ghost use Rattle.table.specs.Tables.{content_of};
 
 use crate::corner::Corner;
 use crate::segment::Segment;
 use crate::winding::WindingCount;
-use table::ordered_table::{NoRoom, OrderedTable};
+use table::no_room::NoRoom;
+use table::ordered_table::OrderedTable;
 use table::places::blank_all;
 
 // Where a segment ends, with its count.
@@ -70,7 +69,6 @@ fn join_all<C: WindingCount>(
 
 // An empty table over all the places.
 fn empty_table<'a, C: WindingCount>(places: &'a mut [Corner<C>]) -> OrderedTable<'a, Corner<C>>
-    ensures sound { Sound (corner_kind C.WindingCount.kind) (content_of result) }
     ensures none { (content_of result).used ≡ 0 }
     ensures all { (content_of result).room ≡ length places.old }
 {

@@ -5,8 +5,7 @@ use Rattle.segm.proofs.joining.join_mark.Goals as goal
 
 pub returns : goal.returns
 returns c = record {
-  answer = c.insert.ensures.answer;
-  sound = c.insert.ensures.sound;
-  marked = joined_marked c.args.m (content_of c.args.marks.now) _ c.insert.result c.insert.ensures.answer;
+  answer = c.insert.ensures;
+  marked = joined_marked c.args.m (content_of c.args.marks.now) _ c.insert.result c.insert.ensures;
   determined = marks_determine;
 }
