@@ -11,8 +11,7 @@ ghost use Rattle.table.specs.Tables.{content_of, records_of};
 use crate::line_mark::LineMark;
 use crate::segment::Segment;
 use crate::winding::WindingCount;
-use table::no_room::NoRoom;
-use table::ordered_table::OrderedTable;
+use table::ordered_table::{NoRoom, OrderedTable};
 
 /// Brings a segment to its place: its count is added to that of the edge with its ends, and an empty sum leaves nothing.
 pub fn join_segment<C: WindingCount>(

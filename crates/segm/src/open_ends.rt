@@ -9,8 +9,7 @@ ghost use Rattle.table.specs.Tables.{content_of};
 use crate::corner::Corner;
 use crate::segment::Segment;
 use crate::winding::WindingCount;
-use table::no_room::NoRoom;
-use table::ordered_table::OrderedTable;
+use table::ordered_table::{NoRoom, OrderedTable};
 use table::places::blank_all;
 
 // Where a segment ends, with its count.

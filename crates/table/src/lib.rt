@@ -2,6 +2,5 @@
 #![tactic(auto)]
 
 pub mod keyed;
-pub mod no_room;
 pub mod ordered_table;
 pub mod places;

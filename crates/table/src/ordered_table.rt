@@ -14,3 +14,7 @@ pub struct OrderedTable<'a, R: Keyed> {
     room: usize,
     ghost sound: { Sound R.Keyed.kind (content places.now used room) } by { sound_once R.Keyed.kind R.code (content places.now used room) },
 }
+
+/// A new key came, and all the room is used.
+#[derive(Clone, Copy, PartialEq, Eq, Debug)]
+pub struct NoRoom;

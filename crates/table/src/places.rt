@@ -5,7 +5,7 @@ ghost use Rattle.table.specs.Contents.{Came, Refused, Replaced, content};
 ghost use Rattle.table.specs.Search.{Searched};
 
 use crate::keyed::Keyed;
-use crate::no_room::NoRoom;
+use crate::ordered_table::NoRoom;
 use std::cmp::Ordering;
 
 // Where the record with the key of r stands, or where r belongs. The end is tried first, since most records come there.

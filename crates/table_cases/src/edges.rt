@@ -1,6 +1,5 @@
 //! Edges: equal ones add their counts, an empty sum leaves nothing, and the freed place is used again.
-use anyhow::anyhow;
-use plane::int_point::IntPoint;
+use crate::points::{point, told};
 use segm::boolean::ShapeCountBoolean;
 use segm::joining::join_segment;
 use segm::parity::Parity;
@@ -28,19 +27,12 @@ pub(crate) fn edge_cases(rt: &HostRuntime) -> anyhow::Result<()> {
     println!(rt; "edges of even-odd parity, one place")?;
     let mut places = [Segment::blank()];
     let mut table = OrderedTable::open(&mut places, 1);
-    for turn in 0..3 {
+    for turn in [0, 1, 2] {
         let s = Segment::create(point(0, 0)?, point(turn, 5)?, Parity { odd: true });
         odd(rt, &mut table, s)?;
         odd(rt, &mut table, s)?;
     }
     Ok(())
-}
-
-fn point(x: i32, y: i32) -> anyhow::Result<IntPoint> {
-    match IntPoint::new(x, y) {
-        Ok(point) => Ok(point),
-        Err(_) => Err(anyhow!("a coordinate is outside")),
-    }
 }
 
 fn both(
@@ -70,8 +62,4 @@ fn odd(
     let (x, y, held) = (s.b.x, s.b.y, table.len());
     println!(rt; "0 0 {x} {y}: {answer}, {held} held")?;
     Ok(())
-}
-
-fn told(is_taken: bool) -> &'static str {
-    if is_taken { "taken" } else { "refused" }
 }

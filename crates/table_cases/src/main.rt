@@ -3,6 +3,7 @@
 
 mod edges;
 mod marks;
+mod points;
 
 use edges::edge_cases;
 use marks::mark_cases;

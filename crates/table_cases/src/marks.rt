@@ -1,6 +1,5 @@
 //! Marks: equal ones join to one, and a new one that finds all places used is refused.
-use anyhow::anyhow;
-use plane::int_point::IntPoint;
+use crate::points::{point, told};
 use segm::joining::join_mark;
 use segm::line_mark::LineMark;
 use table::keyed::Keyed;
@@ -21,10 +20,8 @@ pub(crate) fn mark_cases(rt: &HostRuntime) -> anyhow::Result<()> {
 }
 
 fn mark(index: usize, x: i32, y: i32) -> anyhow::Result<LineMark> {
-    match IntPoint::new(x, y) {
-        Ok(point) => Ok(LineMark { index, point }),
-        Err(_) => Err(anyhow!("a coordinate is outside")),
-    }
+    let point = point(x, y)?;
+    Ok(LineMark { index, point })
 }
 
 /// Five marks, of which two are equal, into a few places.
@@ -52,10 +49,7 @@ fn tell(
     table: &mut OrderedTable<'_, LineMark>,
     m: LineMark,
 ) -> anyhow::Result<()> {
-    let answer = match join_mark(table, m) {
-        Ok(()) => "taken",
-        Err(_) => "refused",
-    };
+    let answer = told(join_mark(table, m).is_ok());
     let (index, x, y, held) = (m.index, m.point.x, m.point.y, table.len());
     println!(rt; "{index} at {x} {y}: {answer}, {held} held")?;
     Ok(())
@@ -66,8 +60,8 @@ fn many(rt: &HostRuntime) -> anyhow::Result<()> {
     let mut places = vec![in rt.alloc(); LineMark::blank(); 4096]?;
     let room = places.len();
     let mut table = OrderedTable::open(places.as_mut_slice(), room);
-    for i in 0..4096 {
-        let _ = join_mark(&mut table, mark(4095 - i, 0, 0)?);
+    for index in (0..4096).rev() {
+        let _ = join_mark(&mut table, mark(index, 0, 0)?);
     }
     let held = table.len();
     println!(rt; "{held} held")?;

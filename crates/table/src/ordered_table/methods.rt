@@ -5,8 +5,7 @@ ghost use Rattle.table.specs.Laws.{ListingLaws};
 ghost use Rattle.table.specs.Tables.{content_of, records_of};
 
 use crate::keyed::Keyed;
-use crate::no_room::NoRoom;
-use crate::ordered_table::OrderedTable;
+use crate::ordered_table::{NoRoom, OrderedTable};
 use crate::places::{blank_all, bring, replace};
 
 impl<'a, R: Keyed> OrderedTable<'a, R> {
