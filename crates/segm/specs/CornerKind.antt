@@ -1,5 +1,5 @@
 -- Corners as records of a table, with the proofs of the laws: the key is the point, and corners of one point add their counts.
-use Rattle.std.specs.Prelude.{◌≡◌, true, ℤ}
+use Rattle.std.specs.Prelude.{◌≡◌, true}
 use Rattle.std.specs.declared.cmp.Ordering.TheVariants.{Equal}
 use Rattle.std.specs.declared.cmp.Ordering.{Ordering}
 use Rattle.std.proofs.Common.{ap, ◌∙◌}
@@ -13,18 +13,12 @@ use Rattle.segm.specs.OrderLaws.{same_point, equal_points, point_total}
 use Rattle.segm.specs.Corners.{joined_corner, blank_corner}
 use Rattle.segm.specs.declared.corner.Corner.{Corner}
 
-abbrev pub point_key : Point → ℤ × ℤ
-point_key p = (p.x, p.y)
-
 pub point_itself : (p : Point) → point_order p p ≡ Equal
 point_itself p = balanced (point_order p p) (point_total.antisymm p p)
 
 module _ {C : Type 0} where
   abbrev pub corner_order : Corner C → Corner C → Ordering
   corner_order c d = point_order (point_of c.point) (point_of d.point)
-
-  abbrev pub corner_key : Corner C → ℤ × ℤ
-  corner_key c = point_key (point_of c.point)
 
 module _ {C : Type 0} (K : CountKind C) where
   pub corners_comm : (c d : Corner C) → corner_order c d ≡ Equal → joined_corner K c d ≡ joined_corner K d c

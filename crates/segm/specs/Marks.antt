@@ -1,14 +1,9 @@
 -- Points marked on edges, and their order.
-use Rattle.std.specs.Prelude.{ℕ, ℤ}
 use Rattle.std.specs.declared.cmp.Ordering.{Ordering}
 use Rattle.plane.specs.PointOf.{point_of}
 use Rattle.segm.specs.Orders.{point_order, origin}
 use Rattle.segm.specs.declared.line_mark.LineMark.{LineMark}
 use Rattle.std.specs.Ordering.{nat_cmp, ordering_then}
-
--- the number of the edge, and the point
-abbrev pub mark_key : LineMark → ℕ × (ℤ × ℤ)
-mark_key m = (m.index, (m.point.x, m.point.y))
 
 -- index first, then point
 abbrev pub mark_order : LineMark → LineMark → Ordering

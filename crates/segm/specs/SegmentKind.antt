@@ -1,5 +1,5 @@
 -- Segments as records of a table, with the proofs of the laws: the key is both ends, and equal edges add their counts.
-use Rattle.std.specs.Prelude.{◌≡◌, true, ℤ}
+use Rattle.std.specs.Prelude.{◌≡◌, true}
 use Rattle.std.specs.declared.cmp.Ordering.TheVariants.{Equal}
 use Rattle.std.proofs.Common.{ap, ◌∙◌}
 use Rattle.table.specs.Records.{RecordKind}
@@ -10,9 +10,6 @@ use Rattle.segm.specs.Orders.{edge_order}
 use Rattle.segm.specs.OrderLaws.{same_point, equal_edges, edge_total}
 use Rattle.segm.specs.Segments.{ends_of, joined_segment, blank_segment}
 use Rattle.segm.specs.declared.segment.Segment.{Segment}
-
-abbrev pub key : Edge → (ℤ × ℤ) × (ℤ × ℤ)
-key e = ((e.a.x, e.a.y), (e.b.x, e.b.y))
 
 pub edge_itself : (e : Edge) → edge_order e e ≡ Equal
 edge_itself e = balanced (edge_order e e) (edge_total.antisymm e e)

@@ -1,7 +1,7 @@
 //! A point with a count, as a record of an ordered table.
 ghost use Rattle.segm.specs.CornerKind.{corner_kind};
 
-use crate::order::{compare_points, zero_point};
+use crate::order::zero_point;
 use crate::winding::WindingCount;
 use plane::int_point::IntPoint;
 use std::cmp::Ordering;
@@ -18,7 +18,7 @@ impl<C: WindingCount> Keyed for Corner<C> {
     ghost kind = { corner_kind C.WindingCount.kind };
 
     fn compare(self, other: Corner<C>) -> Ordering {
-        compare_points(self.point, other.point)
+        self.point.cmp(&other.point)
     }
 
     fn join(self, other: Corner<C>) -> Corner<C> {

@@ -8,7 +8,7 @@ ghost use Rattle.std.specs.Ordering.{MatchOrdering};
 ghost use Rattle.std.specs.Prelude.{◌≡◌};
 
 use crate::line_mark::LineMark;
-use crate::order::{compare_points, zero_point};
+use crate::order::zero_point;
 use crate::segment::Segment;
 use crate::winding::WindingCount;
 use std::cmp::Ordering;
@@ -22,9 +22,7 @@ impl<C: WindingCount> Keyed for Segment<C> {
         ensures answer { result ≡ edge_order (ends_of self) (ends_of other) }
         ensures tells { MatchOrdering result (ends_of self ⊏ ends_of other) (ends_of self ≡ ends_of other) (ends_of other ⊏ ends_of self) }
     {
-        let by_first = compare_points(self.a, other.a);
-        let by_second = compare_points(self.b, other.b);
-        by_first.then(by_second)
+        (self.a, self.b).cmp(&(other.a, other.b))
     }
 
     fn join(self, other: Segment<C>) -> Segment<C> {
@@ -53,9 +51,7 @@ impl Keyed for LineMark {
     ghost kind = { mark_kind };
 
     fn compare(self, other: LineMark) -> Ordering {
-        let by_index = self.index.cmp(&other.index);
-        let by_point = compare_points(self.point, other.point);
-        by_index.then(by_point)
+        self.cmp(&other)
     }
 
     fn join(self, other: LineMark) -> LineMark {

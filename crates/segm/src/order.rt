@@ -12,9 +12,7 @@ pub fn compare_points(p: IntPoint, q: IntPoint) -> Ordering
     ensures answer { result ≡ point_order (point_of p) (point_of q) }
     ensures tells { MatchOrdering result (point_of p ≺ point_of q) (point_of p ≡ point_of q) (point_of q ≺ point_of p) }
 {
-    let by_x = p.x.cmp(&q.x);
-    let by_y = p.y.cmp(&q.y);
-    by_x.then(by_y)
+    p.cmp(&q)
 }
 
 /// The point (0, 0), where the ends of a blank place lie.

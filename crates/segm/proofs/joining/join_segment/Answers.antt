@@ -9,6 +9,6 @@ returns g c =
     let K = g.C.WindingCount.kind in
     record {
       answer = c.insert.ensures;
-          adds = joined_adds K c.args.s (content_of c.args.edges.now) _ c.insert.result c.insert.ensures c.args.edges.now.sound.ordered;
+      adds = joined_adds K c.args.s (content_of c.args.edges.now) _ c.insert.result c.insert.ensures c.args.edges.now.sound.ordered;
       determined = counting_determined K;
     }
