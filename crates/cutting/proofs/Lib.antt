@@ -1,3 +1,4 @@
 pub mod Joining
+pub mod Stops
 pub mod PlacingLoops
 pub mod MarkRows

@@ -1,25 +1,23 @@
 -- Marks in order stand in rows, one for each edge, and the edges are cut row by row.
-use Rattle.std.proofs.Common.{◌≡◌, ℕ, suc, ◌+◌, ◌-◌, ◌<◌, ◌≤◌, cond, List, [], ◌∷◌, ◌++◌, map, length, get_or, take, drop, Ordering, Less, Equal, Greater, sym, refl, ap, ◌∙◌, subst, ap₂, arith, take-append-drop}
-use borrow.Rule.Slice.PartMut.{put_mid}
-use Rattle.std.specs.List.{between, AllByRecursion}
-use Rattle.std.proofs.lemmas.List.Edits.{length-between, get_or-between}
+use Rattle.std.proofs.Common.{◌≡◌, ℕ, suc, ◌+◌, ◌<◌, ◌≤◌, ◌==◌, Bool, true, false, cond, List, [], ◌∷◌, ◌++◌, map, length, get_or, take, drop, Ordering, Less, Equal, Greater, sym, refl, ap, ◌∙◌, subst, ap₂, arith, take-append-drop}
+use Rattle.std.specs.List.{AllByRecursion, prefix_len}
+use Rattle.std.proofs.Math.Numerals.{one-add}
 use Rattle.std.specs.Cmp.{ranks}
 use Rattle.std.specs.Ordering.{MatchOrdering, ordering_then, nat_cmp}
-use Rattle.std.proofs.lemmas.List.{append-nil, append_assoc, length-append, length-take-le, length-drop, get_or-drop, take_more}
-use Rattle.std.proofs.lemmas.Slice.{drop-put_mid}
-use Rattle.std.proofs.lemmas.Bool.{eq-eqb, ne_eqb}
+use Rattle.std.proofs.lemmas.List.{append-nil, append_assoc, length-append, length-take-le, take_more}
+use Rattle.std.proofs.lemmas.Bool.{eqb-true, ne_eqb}
+use Rattle.std.proofs.lemmas.Bool.Decides.{nat_tests}
 use Rattle.table.specs.Listings.{Ascending, Ordered}
 use Rattle.plane.specs.PointOf.{point_of}
 use Rattle.plane.specs.declared.int_point.IntPoint.{IntPoint}
 use Rattle.segm.specs.Counts.{CountKind}
 use Rattle.segm.specs.Orders.{point_order}
-use Rattle.segm.specs.Marks.{mark_order, blank_mark}
+use Rattle.segm.specs.Marks.{mark_order}
 use Rattle.segm.specs.MarkKind.{mark_kind}
 use Rattle.segm.specs.declared.line_mark.LineMark.{LineMark}
 use Rattle.segm.specs.declared.segment.Segment.{Segment}
 use Rattle.rounds.specs.Pieces.{points_on, cut, cut_from}
 use Rattle.cutting.specs.Cutting.{point_at}
-use Rattle.cutting.proofs.PlacingLoops.{between_rest}
 
 -- ---- rising indices
 -- no index is below i, and none is below that of an earlier mark
@@ -53,39 +51,41 @@ none_on i k (m ∷ l) lt h =
     ap (λ b. cond b (m.point ∷ points_on k l) (points_on k l)) (ne_eqb m.index k (λ e. omega (arith, h.0)))
     ∙ none_on m.index k l (omega (arith, h.0)) h.1
 
-module _ (i : ℕ) (r : List LineMark) (next : 0 < length r → (get_or r 0 blank_mark).index ≡ i → ⊥) where
-  rest_rises : Rising i r → Rising (suc i) r
-  rest_rises = go r next
-    where
-      go : (l : List LineMark) → (0 < length l → (get_or l 0 blank_mark).index ≡ i → ⊥) → Rising i l → Rising (suc i) l
-      go [] n h = tt
-      go (m ∷ l) n h = (above m.index h.0 (n (omega arith)), h.1)
-        where
-          above : (k : ℕ) → i ≤ k → (k ≡ i → ⊥) → suc i ≤ k
-          above k le ne = omega arith
+-- how many of the first marks are those of edge i
+abbrev row : ℕ → List LineMark → ℕ
+row i l = prefix_len (λ (m : LineMark). m.index == i) l
 
-  abbrev Own : List LineMark → Type 0
-  Own g = (k : ℕ) → k < length g → (get_or g k blank_mark).index ≡ i
+-- an index that is no lower and another is higher
+other : (k i : ℕ) → (k == i) ≡ false → i ≤ k → i < k
+other k i e le = grind (arith, nat_tests)
 
-  own_more : (m : LineMark) (g : List LineMark) → Own (m ∷ g) → Own g
-  own_more m g own k h = own (suc k) (omega arith)
+row_points : (i : ℕ) (l : List LineMark) → Rising i l → map point_at (take (row i l) l) ≡ points_on i l
+row_points i [] h = refl
+row_points i (m ∷ l) h = go (m.index == i) refl (row_points i l (rising_lower i m.index l h.0 h.1))
+  where
+    go : (b : Bool) → (m.index == i) ≡ b → map point_at (take (row i l) l) ≡ points_on i l
+        → map point_at (take (cond b (1 + row i l) 0) (m ∷ l)) ≡ cond b (m.point ∷ points_on i l) (points_on i l)
+    go true e rest =
+        subst (λ (n : ℕ). map point_at (take n (m ∷ l)) ≡ m.point ∷ points_on i l) (sym (one-add (row i l))) (ap (λ (u : List IntPoint). m.point ∷ u) rest)
+    go false e rest = sym (none_on m.index i l (other m.index i e h.0) h.1)
 
-  row_rises : (g : List LineMark) → Own g → Rising i (g ++ r) → Rising (suc i) r
-  row_rises [] own h = rest_rises h
-  row_rises (m ∷ g) own h = row_rises g (own_more m g own) (rising_lower i m.index (g ++ r) h.0 h.1)
+row_rises : (i : ℕ) (l : List LineMark) → Rising i l → Rising (suc i) (drop (row i l) l)
+row_rises i [] h = tt
+row_rises i (m ∷ l) h = go (m.index == i) refl (row_rises i l (rising_lower i m.index l h.0 h.1))
+  where
+    go : (b : Bool) → (m.index == i) ≡ b → Rising (suc i) (drop (row i l) l) → Rising (suc i) (drop (cond b (1 + row i l) 0) (m ∷ l))
+    go true e rest = subst (λ (n : ℕ). Rising (suc i) (drop n (m ∷ l))) (sym (one-add (row i l))) rest
+    go false e rest = (other m.index i e h.0, h.1)
 
-  row_points : (g : List LineMark) → Own g → Rising i (g ++ r) → points_on i (g ++ r) ≡ map point_at g
-  row_points [] own h = none_on (suc i) i r (omega arith) (rest_rises h)
-  row_points (m ∷ g) own h =
-      ap (λ b. cond b (m.point ∷ points_on i (g ++ r)) (points_on i (g ++ r))) (eq-eqb m.index i (own 0 (omega arith)))
-      ∙ ap (λ l. m.point ∷ l) (row_points g (own_more m g own) (rising_lower i m.index (g ++ r) h.0 h.1))
-
-  row_others : (k : ℕ) → suc i ≤ k → (g : List LineMark) → Own g → points_on k (g ++ r) ≡ points_on k r
-  row_others k lt [] own = refl
-  row_others k lt (m ∷ g) own =
-      let here : m.index ≡ i = own 0 (omega arith) in
-      ap (λ b. cond b (m.point ∷ points_on k (g ++ r)) (points_on k (g ++ r))) (ne_eqb m.index k (λ e. omega arith))
-      ∙ row_others k lt g (own_more m g own)
+row_others : (i k : ℕ) (l : List LineMark) → i < k → points_on k l ≡ points_on k (drop (row i l) l)
+row_others i k [] lt = refl
+row_others i k (m ∷ l) lt = go (m.index == i) refl (row_others i k l lt)
+  where
+    go : (b : Bool) → (m.index == i) ≡ b → points_on k l ≡ points_on k (drop (row i l) l) → points_on k (m ∷ l) ≡ points_on k (drop (cond b (1 + row i l) 0) (m ∷ l))
+    go true e rest =
+        ap (λ b. cond b (m.point ∷ points_on k l) (points_on k l)) (ne_eqb m.index k (λ d. let here : m.index ≡ i = eqb-true m.index i e in omega arith))
+        ∙ subst (λ (n : ℕ). points_on k l ≡ points_on k (drop n (m ∷ l))) (sym (one-add (row i l))) rest
+    go false e rest = refl
 
 -- ---- the rows of a list of marks
 -- `rest` is what is left of ms behind the rows of the first i edges
@@ -96,58 +96,19 @@ pub record Rows (i : ℕ) (ms rest : List LineMark) : Type 0 where
 pub rows_none : (ms : List LineMark) → Ordered mark_kind ms → Rows 0 ms ms
 rows_none ms o = record { rising = rising_all ms o.ascending; points = λ k h. refl }
 
--- the row of edge i stands between two places of a list
-module _ (i : ℕ) (ms t : List LineMark) (from to : ℕ) (le : from ≤ to) (within : to ≤ length t)
-    (own : (k : ℕ) → from ≤ k → k < to → (get_or t k blank_mark).index ≡ i) (next : to < length t → (get_or t to blank_mark).index ≡ i → ⊥) where
-  abbrev row : List LineMark
-  row = between from to t
+-- the first n marks that are left are the row of edge i
+module _ {i : ℕ} {ms rest : List LineMark} (rows : Rows i ms rest) (n : ℕ) (all : n ≡ row i rest) where
+  pub rows_points : (front : List LineMark) → front ≡ take n rest → map point_at front ≡ points_on i ms
+  rows_points front is =
+      ap (map point_at) (is ∙ ap (λ (k : ℕ). take k rest) all) ∙ row_points i rest rows.rising ∙ sym (rows.points i (omega arith))
 
-  rest_is : drop from t ≡ row ++ drop to t
-  rest_is = between_rest t from to le
-
-  row_own : (k : ℕ) → k < length row → (get_or row k blank_mark).index ≡ i
-  row_own k h =
-      let long : length row ≡ to - from = length-between t from to within in
-      ap (λ (m : LineMark). m.index) (get_or-between t from to k blank_mark (omega arith))
-      ∙ own (from + k) (omega arith) (omega arith)
-
-  row_next : 0 < length (drop to t) → (get_or (drop to t) 0 blank_mark).index ≡ i → ⊥
-  row_next h e =
-      let z : to + 0 ≡ to = omega arith in
-      next (omega (arith, length-drop to t)) (sym (ap (λ (m : LineMark). m.index) (get_or-drop to t 0 blank_mark ∙ ap (λ (n : ℕ). get_or t n blank_mark) z)) ∙ e)
-
-  module _ (rows : Rows i ms (drop from t)) where
-    rises : Rising i (row ++ drop to t)
-    rises = subst (Rising i) rest_is rows.rising
-
-    pub rows_points : map point_at row ≡ points_on i ms
-    rows_points = sym (rows.points i (omega arith) ∙ ap (points_on i) rest_is ∙ row_points i (drop to t) row_next row row_own rises)
-
-    pub rows_more : (u : List LineMark) → drop to u ≡ drop to t → Rows (i + 1) ms (drop to u)
-    rows_more u e =
-        let one : suc i ≡ i + 1 = omega arith in
-        subst (λ (n : ℕ). Rows n ms (drop to u)) one (subst (Rows (suc i) ms) (sym e) (record {
-          rising = row_rises i (drop to t) row_next row row_own rises;
-          points = λ k lt. rows.points k (omega arith) ∙ ap (points_on k) rest_is ∙ row_others i (drop to t) row_next k lt row row_own;
-        }))
-
--- a row that is written over by one as long
-module _ (t ys : List LineMark) (from to : ℕ) (le : from ≤ to) (within : to ≤ length t) (long : length ys ≡ length (between from to t)) where
-  row_long : length ys ≡ to - from
-  row_long = long ∙ length-between t from to within
-
-  pub behind_row : drop to (put_mid from (to - from) t ys) ≡ drop to t
-  behind_row = drop-put_mid from (to - from) t ys to (omega arith) (omega arith) row_long
-
-  pub row_within : to ≤ length (put_mid from (to - from) t ys)
-  row_within =
-      omega (
-        arith,
-        row_long,
-        length-append (take from t) (ys ++ drop (to - from) (drop from t)),
-        length-append ys (drop (to - from) (drop from t)),
-        length-take-le from t (omega arith),
-      )
+  pub rows_more : (back : List LineMark) → back ≡ drop n rest → Rows (i + 1) ms back
+  rows_more back is =
+      let one : suc i ≡ i + 1 = omega arith in
+      subst (Rows (i + 1) ms) (sym (is ∙ ap (λ (k : ℕ). drop k rest) all)) (record {
+        rising = subst (λ (k : ℕ). Rising k (drop (row i rest) rest)) one (row_rises i rest rows.rising);
+        points = λ k lt. rows.points k (omega arith) ∙ row_others i k rest (omega arith);
+      })
 
 -- ---- edges cut one after another
 module _ {C : Type 0} (K : CountKind C) (ms : List LineMark) where

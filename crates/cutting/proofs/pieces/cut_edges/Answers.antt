@@ -1,18 +1,20 @@
 -- What one edge after another brings.
-use Rattle.std.proofs.Common.{◌+◌, ◌-◌, map, length, take, ap, arith}
-use borrow.Rule.Slice.PartMut.{put_mid}
-use Rattle.std.specs.List.{between}
+use Rattle.std.proofs.Common.{◌≡◌, ◌==◌, map, take, refl, ◌∙◌, arith}
 use Rattle.std.proofs.lemmas.List.{take_all}
-use Rattle.std.proofs.lemmas.Result.{MatchResult-from_err}
-use Rattle.rounds.specs.Pieces.{cut, cut_from}
+use Rattle.std.proofs.lemmas.List.Sums.{prefix_len-le-length}
+use Rattle.table.specs.Tables.{content_of}
+use Rattle.segm.specs.declared.line_mark.LineMark.{LineMark}
+use Rattle.rounds.specs.Pieces.{cut_from}
 use Rattle.cutting.specs.Cutting.{point_at}
-use Rattle.cutting.proofs.Joining.{joined_none, joined_as, joined_then, crowded_then, brings_failed}
-use Rattle.cutting.proofs.MarkRows.{rows_none, rows_points, rows_more, behind_row, row_within, cut_more, cut_fewer}
+use Rattle.cutting.proofs.Joining.{joined_none, joined_then, crowded_then, joins_failed, brings_joins}
+use Rattle.cutting.proofs.MarkRows.{rows_none, rows_points, rows_more, cut_more, cut_fewer}
 use Rattle.cutting.proofs.pieces.cut_edges.Goals as goal
 
 pub loop-i-init : goal.loop-i-init
-loop-i-init g c =
-    (omega arith, omega arith, λ o. (rows_none c.args.marks.now o, joined_none g.C.WindingCount.kind c.args.room c.args.list.now 0))
+loop-i-init g c = record { kept = (refl, refl); joined = λ o. (rows_none c.args.marks.now o, joined_none) }
+
+pub split_at_mut-row-requires : goal.split_at_mut-row-requires
+split_at_mut-row-requires g c = omega (arith, c.marks_on-count.ensures, prefix_len-le-length (λ (m : LineMark). m.index == c.loop-i.i) c.loop-i.rest.now)
 
 pub loop-i-preserved : goal.loop-i-preserved
 loop-i-preserved g c =
@@ -20,45 +22,37 @@ loop-i-preserved g c =
     let ms = c.args.marks.now in
     let l = c.args.edges.now in
     let i = c.loop-i.i in
-    let t = c.loop-i.marks in
-    let from = c.loop-i.from in
-    let to = c.marks_end-to.result in
-    let row = map point_at (between from to t) in
-    let s = c.index-edges-i.result in
-    let m = c.marks_end-to.ensures in
-    let ys = c.cut_edge.new.marks in (
-      row_within t ys from to m.behind m.within c.cut_edge.auto.marks,
-      c.in_ok-used.ensures.within,
-      λ o.
-          let h = c.loop-i.invariant.2 o in
-          let on = rows_points i ms t from to m.behind m.within m.own m.next h.0 in (
-            rows_more i ms t from to m.behind m.within m.own m.next h.0 (put_mid from (to - from) t ys) (behind_row t ys from to m.behind m.within c.cut_edge.auto.marks),
-            joined_then K (cut_from K 0 ms (take i l)) (cut K s row) c.args.room c.args.list.now 0 c.loop-i.list c.loop-i.used h.1
-                (cut_from K 0 ms (take (i + 1) l)) (cut_more K ms l i s c.loop-i-test.true c.index-edges-i.is row on)
-                c.cut_edge.new.list c.in_ok-used.used c.in_ok-used.ensures.pieces,
-          ),
-    )
+    let split = c.split_at_mut-row in
+    let n = c.marks_on-count in
+    let step = c.in_ok-cut_edge.ensures in
+    record {
+      kept = (step.kept.0 ∙ c.loop-i.invariant.kept.0, step.kept.1 ∙ c.loop-i.invariant.kept.1);
+      joined = λ o.
+          let h = c.loop-i.invariant.joined o in
+          let on = rows_points h.0 n.result n.ensures split.result.0.now split.ensures.front in (
+            rows_more h.0 n.result n.ensures split.result.1.now split.ensures.back,
+            joined_then h.1 step (cut_more K ms l i c.index-edges-i.result c.loop-i-test.true c.index-edges-i.is (map point_at split.result.0.now) on),
+          );
+    }
 
-pub returns-in_err-used : goal.returns-in_err-used
-returns-in_err-used g c =
+pub returns-in_err-cut_edge : goal.returns-in_err-cut_edge
+returns-in_err-cut_edge g c =
     let K = g.C.WindingCount.kind in
     let ms = c.args.marks.now in
     let l = c.args.edges.now in
     let i = c.loop-i.i in
-    let t = c.loop-i.marks in
-    let from = c.loop-i.from in
-    let to = c.marks_end-to.result in
-    let row = map point_at (between from to t) in
-    let s = c.index-edges-i.result in
-    let m = c.marks_end-to.ensures in
+    let split = c.split_at_mut-row in
+    let n = c.marks_on-count in
+    let step = c.in_err-cut_edge.ensures in
     record {
       pieces = λ o.
-          let h = c.loop-i.invariant.2 o in
-          let on = rows_points i ms t from to m.behind m.within m.own m.next h.0 in
-          brings_failed K (cut_from K 0 ms l) c.args.room c.args.list.now 0 _ c.from_residual.result c.from_residual.ensures.0
-          (crowded_then K (cut_from K 0 ms (take i l)) (cut K s row) c.args.room c.args.list.now 0 c.loop-i.list c.loop-i.used h.1
-          (length (cut_from K 0 ms l)) (cut_fewer K ms l i s c.loop-i-test.true c.index-edges-i.is row on) c.in_err-used.ensures.pieces);
-      within = MatchResult-from_err c.from_residual.result _ _ c.from_residual.ensures.0 (λ _. tt);
+          let h = c.loop-i.invariant.joined o in
+          let on = rows_points h.0 n.result n.ensures split.result.0.now split.ensures.front in
+          brings_joins (cut_from K 0 ms l) (content_of c.args.list.now) (content_of c.cut_edge.new.list) c.from_residual.result
+          (joins_failed c.from_residual.result
+          (crowded_then h.1 step (cut_fewer K ms l i c.index-edges-i.result c.loop-i-test.true c.index-edges-i.is (map point_at split.result.0.now) on))
+          c.from_residual.ensures.1);
+      kept = (step.kept.0 ∙ c.loop-i.invariant.kept.0, step.kept.1 ∙ c.loop-i.invariant.kept.1);
     }
 
 pub returns : goal.returns
@@ -68,8 +62,9 @@ returns g c =
     let l = c.args.edges.now in
     let i = c.loop-i.i in
     record {
-      pieces = λ o.
-          joined_as K (cut_from K 0 ms (take i l)) (cut_from K 0 ms l) c.args.room c.args.list.now 0 c.loop-i.list c.loop-i.used
-          (ap (cut_from K 0 ms) (take_all i l c.loop-i-test.false)) (c.loop-i.invariant.2 o).1;
-      within = c.loop-i.invariant.1;
+      pieces = λ o ps p.
+          let done : take i l ≡ l = take_all i l c.loop-i-test.false in
+          let h = rw done at (c.loop-i.invariant.joined o).1 in
+          (h.pieced ps p, h.kept);
+      kept = c.loop-i.invariant.kept;
     }

@@ -1,19 +1,9 @@
 -- What the table's insertion says of a piece.
-use Rattle.cutting.proofs.Joining.{pieced_came, pieced_full}
+use Rattle.std.proofs.Common.{rules}
+use Rattle.table.specs.Tables.{content_of}
+use Rattle.cutting.proofs.Joining.{piece_joins}
 use Rattle.cutting.proofs.pieces.join_piece.Goals as goal
 
-pub returns-in-Some : goal.returns-in-Some
-returns-in-Some g c =
-    let K = g.C.WindingCount.kind in
-    record {
-      pieces = λ ps p. pieced_came K c.args.piece c.args.room c.args.list.now c.insert.new.table c.args.used ps p c.in-Some.used c.in-Some.ensures;
-      within = c.in-Some.ensures.fits;
-    }
-
-pub returns-in-None : goal.returns-in-None
-returns-in-None g c =
-    let K = g.C.WindingCount.kind in
-    record {
-      pieces = λ ps p. pieced_full K c.args.piece c.args.room c.args.list.now c.insert.new.table c.args.used ps p c.in-None.ensures;
-      within = tt;
-    }
+pub returns : goal.returns
+returns g c =
+    piece_joins g.C.WindingCount.kind c.args.piece (content_of c.args.list.now) (content_of c.insert.new.self) c.insert.result c.map_err.result _ c.args.list.now.sound c.insert.ensures c.map_err.ensures.cases (λ e f k. search rules)
