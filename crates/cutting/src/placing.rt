@@ -1,5 +1,6 @@
 //! The marks of one edge in cutting order.
-ghost use Rattle.std.specs.Prelude.{◌≡◌, ℕ, ◌<◌, ◌≤◌, true, false, map, length, int_lt, slice_index_or};
+ghost use Rattle.std.specs.Prelude.{◌≡◌, ◌+◌, ◌<◌, ◌≤◌, not, map, length, drop, int_lt, slice_index_or};
+ghost use Rattle.std.specs.List.{prefix_len};
 ghost use Rattle.segm.specs.Marks.{blank_mark};
 ghost use Rattle.rounds.specs.Placing.{placed};
 ghost use Rattle.cutting.specs.Cutting.{point_at};
@@ -12,15 +13,12 @@ use segm::line_mark::LineMark;
 pub fn place_marks(marks: &mut [LineMark], a: IntPoint, b: IntPoint)
     ensures { map point_at marks.new ≡ placed a b (map point_at marks.old) }
 {
+    // Stays: `chunk_by_mut` compares neighbours, while a group goes by its first mark; and of a rest that a loop hands on no proof knows what was written.
     let mut before = a.y;
     let mut from = 0;
     while from < marks.len() {
-        let to = group_end(marks, from);
-        let after = if to < marks.len() {
-            marks[to].point.y
-        } else {
-            b.y
-        };
+        let to = from + group_len(&marks[from..]);
+        let after = marks.get(to).map_or(b.y, |mark| mark.point.y);
         if before > after {
             marks[from..to].reverse();
         }
@@ -29,18 +27,13 @@ pub fn place_marks(marks: &mut [LineMark], a: IntPoint, b: IntPoint)
     }
 }
 
-/// Where the group of equal x that begins at a place ends.
-fn group_end(marks: &[LineMark], from: usize) -> usize
-    requires { from < length marks.now }
-    ensures behind { from < result }
+/// How many of the first marks are the group that the first one begins: none of them is to its right.
+fn group_len(marks: &[LineMark]) -> usize
+    requires { 0 < length marks.now }
+    ensures some { 0 < result }
     ensures within { result ≤ length marks.now }
-    ensures group { (k : ℕ) → from < k → k < result → int_lt (slice_index_or marks.now from blank_mark).point.x (slice_index_or marks.now k blank_mark).point.x ≡ false }
-    ensures next { result < length marks.now → int_lt (slice_index_or marks.now from blank_mark).point.x (slice_index_or marks.now result blank_mark).point.x ≡ true }
+    ensures group { result ≡ prefix_len (λ m. not (int_lt (slice_index_or marks.now 0 blank_mark).point.x m.point.x)) marks.now }
 {
-    let x = marks[from].point.x;
-    let mut to = from + 1;
-    while to < marks.len() && marks[to].point.x <= x {
-        to += 1;
-    }
-    to
+    let x = marks[0].point.x;
+    marks.iter().take_while(|mark| mark.point.x <= x).count()
 }
