@@ -7,7 +7,7 @@ use borrow.Rule.Slice.PartMut.{put_mid}
 use Rattle.std.specs.List.{between, prefix_len, HoldsAt}
 use Rattle.std.proofs.Math.Numerals.{one-add}
 use Rattle.std.proofs.lemmas.List.Edits.{length-between}
-use Rattle.std.proofs.lemmas.List.{append-nil, append_assoc, drop_all, take_all, drop_more, drop-drop, get_or-drop, take_rest, length-reverse, map-append, map_more, reverse-reverse}
+use Rattle.std.proofs.lemmas.List.{append-nil, append_assoc, drop_all, take_all, drop_more, drop-drop, get_or-drop, take_rest, length-drop, length-reverse, map-append, map_more, reverse-reverse}
 use Rattle.std.proofs.lemmas.Slice.{take-put_mid, drop-put_mid}
 use Rattle.std.proofs.lemmas.Int.{to_z-of_z}
 use Rattle.plane.specs.declared.int_point.IntPoint.{IntPoint}
@@ -94,6 +94,9 @@ group_from t k n is =
     let z : k + 0 ≡ k = omega arith in
     subst (λ (l : List LineMark). n ≡ up_to (get_or l 0 blank_mark).point.x l) (take_rest t k) is
     ∙ ap (λ (m : LineMark). up_to m.point.x (drop k t)) (get_or-drop k t 0 blank_mark ∙ ap (λ (i : ℕ). get_or t i blank_mark) z)
+
+pub group_within : (t : List LineMark) (k n : ℕ) → k ≤ length t → n ≤ length (take (length t - k) (drop k t)) → k + n ≤ length t
+group_within t k n le within = omega (arith, ap length (take_rest t k), length-drop k t)
 
 -- what the group between two places becomes: reversed if the test holds
 pub record Turned (test : Bool) (t u : List LineMark) (k to : ℕ) : Type 0 where

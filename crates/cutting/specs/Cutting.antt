@@ -13,8 +13,9 @@ abbrev pub point_at : LineMark → IntPoint
 point_at m = m.point
 
 -- the room and the number of places stay
-abbrev pub Keeps : {R : Type 0} → Content R → Content R → Type 0
-Keeps before after = (after.room ≡ before.room) × (length after.places ≡ length before.places)
+pub record Keeps {R : Type 0} (before after : Content R) : Type 0 where
+  pub room : after.room ≡ before.room
+  pub long : length after.places ≡ length before.places
 
 module _ {C : Type 0} (K : CountKind C) where
   -- the records of a table list the counts of the pieces ps
@@ -24,7 +25,7 @@ module _ {C : Type 0} (K : CountKind C) where
   -- more pieces were joined into a table that listed some; it is refused only where all of them are more than the room
   abbrev pub Brings : {T : Type 0} → List (Segment C) → Content (Segment C) → Content (Segment C) → Result T Fault → Type 0
   Brings more before after r = (ps : List (Segment C)) → Pieced ps before
-      → MatchResult r (λ _. Pieced (ps ++ more) after × Keeps before after) (λ f. (f ≡ PiecesFull) × (before.room < length ps + length more))
+      → MatchResult r (λ _. Pieced (ps ++ more) after × (after.room ≡ before.room) × (length after.places ≡ length before.places)) (λ f. (f ≡ PiecesFull) × (before.room < length ps + length more))
 
   -- the same of one step: more pieces were joined
   pub record Joined (more : List (Segment C)) (before after : Content (Segment C)) : Type 0 where

@@ -1,17 +1,17 @@
 -- What one edge after another brings.
-use Rattle.std.proofs.Common.{◌≡◌, ◌==◌, map, take, refl, ◌∙◌, arith}
+use Rattle.std.proofs.Common.{◌≡◌, ◌==◌, map, take, arith}
 use Rattle.std.proofs.lemmas.List.{take_all}
 use Rattle.std.proofs.lemmas.List.Sums.{prefix_len-le-length}
 use Rattle.table.specs.Tables.{content_of}
 use Rattle.segm.specs.declared.line_mark.LineMark.{LineMark}
 use Rattle.rounds.specs.Pieces.{cut_from}
 use Rattle.cutting.specs.Cutting.{point_at}
-use Rattle.cutting.proofs.Joining.{joined_none, joined_then, crowded_then, joins_failed, brings_joins}
+use Rattle.cutting.proofs.Joining.{keeps_none, keeps_then, joined_none, joined_then, crowded_then, joins_failed, brings_joins}
 use Rattle.cutting.proofs.MarkRows.{rows_none, rows_points, rows_more, cut_more, cut_fewer}
 use Rattle.cutting.proofs.pieces.cut_edges.Goals as goal
 
 pub loop-i-init : goal.loop-i-init
-loop-i-init g c = record { kept = (refl, refl); joined = λ o. (rows_none c.args.marks.now o, joined_none) }
+loop-i-init g c = record { kept = keeps_none; joined = λ o. (rows_none c.args.marks.now o, joined_none) }
 
 pub split_at_mut-row-requires : goal.split_at_mut-row-requires
 split_at_mut-row-requires g c = omega (arith, c.marks_on-count.ensures, prefix_len-le-length (λ (m : LineMark). m.index == c.loop-i.i) c.loop-i.rest.now)
@@ -26,7 +26,7 @@ loop-i-preserved g c =
     let n = c.marks_on-count in
     let step = c.in_ok-cut_edge.ensures in
     record {
-      kept = (step.kept.0 ∙ c.loop-i.invariant.kept.0, step.kept.1 ∙ c.loop-i.invariant.kept.1);
+      kept = keeps_then c.loop-i.invariant.kept step.kept;
       joined = λ o.
           let h = c.loop-i.invariant.joined o in
           let on = rows_points h.0 n.result n.ensures split.result.0.now split.ensures.front in (
@@ -52,7 +52,7 @@ returns-in_err-cut_edge g c =
           (joins_failed c.from_residual.result
           (crowded_then h.1 step (cut_fewer K ms l i c.index-edges-i.result c.loop-i-test.true c.index-edges-i.is (map point_at split.result.0.now) on))
           c.from_residual.ensures.1);
-      kept = (step.kept.0 ∙ c.loop-i.invariant.kept.0, step.kept.1 ∙ c.loop-i.invariant.kept.1);
+      kept = keeps_then c.loop-i.invariant.kept step.kept;
     }
 
 pub returns : goal.returns
@@ -65,6 +65,6 @@ returns g c =
       pieces = λ o ps p.
           let done : take i l ≡ l = take_all i l c.loop-i-test.false in
           let h = rw done at (c.loop-i.invariant.joined o).1 in
-          (h.pieced ps p, h.kept);
+          (h.pieced ps p, h.kept.room, h.kept.long);
       kept = c.loop-i.invariant.kept;
     }

@@ -1,10 +1,9 @@
 -- What placing one group after another leaves.
-use Rattle.std.proofs.Common.{◌≡◌, ◌+◌, ◌-◌, ◌<◌, ◌≤◌, true, false, get_or, length, sym, refl, ◌∙◌, subst, ap, ap₂, arith, rules, w32, to_z, of_z}
+use Rattle.std.proofs.Common.{◌≡◌, ◌+◌, ◌-◌, ◌<◌, ◌≤◌, true, false, get_or, length, sym, refl, ◌∙◌, subst, ap₂, arith, rules, w32, to_z, of_z}
 use borrow.Author.Differences.{ints}
 use lib.Signed.{lt_z}
 use Rattle.std.proofs.lemmas.Int.{to_z-of_z}
-use Rattle.std.proofs.lemmas.List.{take_rest, length-drop}
-use Rattle.cutting.proofs.PlacingLoops.{placing_as, placing_none, placing_more, Turned, turned_back, turned_not, first_told, group_from, y_kept}
+use Rattle.cutting.proofs.PlacingLoops.{placing_as, placing_none, placing_more, Turned, turned_back, turned_not, first_told, group_from, group_within, y_kept}
 use Rattle.cutting.proofs.placing.place_marks.Goals as goal
 use Rattle.cutting.proofs.placing.place_marks.Goals.{then-before-after, else-before-after}
 
@@ -17,7 +16,7 @@ module _ (c : goal.After-index-marks-to) where
       let t = c.loop-from.marks in
       let k = c.loop-from.from in
       let to = k + c.group_len.result in
-      let within : to ≤ length t = omega (arith, c.group_len.ensures.within, ap length (take_rest t k), length-drop k t) in
+      let within : to ≤ length t = group_within t k c.group_len.result c.loop-from.invariant.within c.group_len.ensures.within in
       let same : to_z w32 (of_z w32 c.map_or-after.result) ≡ c.map_or-after.result = to_z-of_z w32 c.map_or-after.result (omega (arith, ints)) in
       let test = ap₂ lt_z (sym same) (sym c.loop-from.before-is) in
       elim c.if-before-after.branch [
@@ -37,7 +36,7 @@ loop-from-preserved c =
     let u = c.if-before-after.marks in
     let d = c.index-marks-to.result in
     let behind : k < to = omega arith in
-    let within : to ≤ length t = omega (arith, c.group_len.ensures.within, ap length (take_rest t k), length-drop k t) in
+    let within : to ≤ length t = group_within t k c.group_len.result c.loop-from.invariant.within c.group_len.ensures.within in
     let after = first_told t to c.args.b.y _ (y_kept c.args.b) c.get.result c.map_or-after.result _ c.map_or-after.ensures (λ m w. search rules) c.get.ensures.lookup.3 c.get.ensures.lookup.1 in
     placing_more _ c.args.b.y c.args.marks.now t k c.loop-from.before (placing_as c.loop-from.before-is c.loop-from.invariant) c.group_len.result to c.map_or-after.result u _ d
     refl behind within (group_from t k c.group_len.result c.group_len.ensures.group)
