@@ -39,15 +39,10 @@ fn read_line(line: &str) -> anyhow::Result<DrawnCount> {
 }
 
 fn number(field: Option<&str>) -> anyhow::Result<i32> {
-    match field {
-        Some(text) => Ok(text.parse::<i32>()?),
-        None => Err(anyhow!("a line has fewer than six numbers")),
-    }
+    let text = field.ok_or_else(|| anyhow!("a line has fewer than six numbers"))?;
+    Ok(text.parse::<i32>()?)
 }
 
 fn point(x: i32, y: i32) -> anyhow::Result<IntPoint> {
-    match IntPoint::new(x, y) {
-        Ok(point) => Ok(point),
-        Err(_) => Err(anyhow!("a coordinate is outside -524288 to 524288")),
-    }
+    IntPoint::new(x, y).map_err(|_| anyhow!("a coordinate is outside -524288 to 524288"))
 }

@@ -41,30 +41,33 @@ pub(crate) fn marks_job(rt: &HostRuntime, mut words: Args) -> anyhow::Result<()>
     }
     let mut places = vec![in rt.alloc(); LineMark::blank(); count]?;
     let start = Instant::now(rt)?;
-    let held = filled(places.as_mut_slice(), course, count);
+    let held = match course {
+        Course::Ascending => filled(places.as_mut_slice(), |i| i),
+        Course::Descending => filled(
+            places.as_mut_slice(),
+            |i| count.saturating_sub(i).saturating_sub(1),
+        ),
+        Course::Shuffled => filled(
+            places.as_mut_slice(),
+            |i| i.wrapping_mul(STRIDE) % count.max(1),
+        ),
+    };
     let micros = start.elapsed(rt)?.as_micros();
     println!(rt; "{held} marks")?;
     eprintln!(rt; "{micros} microseconds")?;
     Ok(())
 }
 
-/// Inserts the marks, and tells how many the table holds.
-fn filled(places: &mut [LineMark], course: Course, count: usize) -> usize {
-    let room = places.len();
-    let mut table = OrderedTable::open(places, room);
-    for i in 0..count {
-        let _ = join_mark(&mut table, mark(place(course, i, count)));
+/// Inserts as many marks as there are places, each at its place in the order, and tells how many the table holds.
+fn filled<P: Fn(usize) -> usize>(places: &mut [LineMark], place: P) -> usize
+    requires { P.IsAlwaysCallable place }
+{
+    let count = places.len();
+    let mut table = OrderedTable::open(places, count);
+    for at in (0..count).map(place) {
+        let _ = join_mark(&mut table, mark(at));
     }
     table.len()
-}
-
-/// The place in the order of the mark that comes as number i.
-fn place(course: Course, i: usize, count: usize) -> usize {
-    match course {
-        Course::Ascending => i,
-        Course::Descending => count.saturating_sub(i).saturating_sub(1),
-        Course::Shuffled => i.wrapping_mul(STRIDE) % count.max(1),
-    }
 }
 
 /// The mark of a place in the order.

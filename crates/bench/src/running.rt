@@ -9,8 +9,6 @@ use grid::fragment::Fragment;
 use grid::fragment_buffer::FragmentBuffer;
 use history::answers::RunAnswer;
 use history::sheet_state::SheetState;
-use plane::int_point::IntPoint;
-use plane::plain_point::PlainPoint;
 use segm::boolean::ShapeCountBoolean;
 use segm::line_mark::LineMark;
 use segm::segment::Segment;
@@ -42,9 +40,9 @@ pub(crate) fn run_job(rt: &HostRuntime, mut words: Args) -> anyhow::Result<()> {
     let (Some(start), Some(step)) = (words.next(), words.next()) else {
         return Err(anyhow!("run takes G or P, a number, a snap start and a step"));
     };
-    let Some(kind) = FinderKind::of(letter.as_str().parse::<char>()?) else {
-        return Err(anyhow!("run takes G or P"));
-    };
+    let kind = FinderKind::of(letter.as_str().parse::<char>()?).ok_or_else(|| anyhow!(
+        "run takes G or P"
+    ))?;
     let repeats = repeats.as_str().parse::<u32>()?;
     let snap = Snap {
         start: start.as_str().parse::<u32>()?,
@@ -95,9 +93,7 @@ fn measure<F: Finder>(
         last = Some(run_once(&mut sheet, finder)?);
         running = running.saturating_add(begun.elapsed(rt)?.as_micros());
     }
-    let Some(answer) = last else {
-        return Err(anyhow!("at least one run"));
-    };
+    let answer = last.ok_or_else(|| anyhow!("at least one run"))?;
     tell(rt, drawn.len(), answer, sheet.number_of_edges())?;
     let times = u128::from(repeats.max(1));
     eprintln!(rt;
@@ -110,9 +106,10 @@ fn measure<F: Finder>(
 
 fn tell(rt: &HostRuntime, put: usize, answer: RunAnswer, left: usize) -> anyhow::Result<()> {
     let rounds = answer.rounds;
-    let state = match answer.state {
-        SheetState::Clean => "clean",
-        _ => "spent",
+    let state = if answer.state == SheetState::Clean {
+        "clean"
+    } else {
+        "spent"
     };
     println!(rt; "{put} edges put, {rounds} rounds, {state}, {left} edges left")?;
     Ok(())
@@ -120,9 +117,9 @@ fn tell(rt: &HostRuntime, put: usize, answer: RunAnswer, left: usize) -> anyhow:
 
 fn put_all(sheet: &mut Sheet<'_, ShapeCountBoolean>, drawn: &[DrawnCount]) -> anyhow::Result<()> {
     for line in drawn {
-        let Ok(()) = sheet.put(plain(line.a), plain(line.b), line.count) else {
-            return Err(anyhow!("the sheet refuses an edge"));
-        };
+        sheet
+            .put(line.a.into(), line.b.into(), line.count)
+            .map_err(|_| anyhow!("the sheet refuses an edge"))?;
     }
     Ok(())
 }
@@ -131,12 +128,7 @@ fn run_once<F: Finder>(
     sheet: &mut Sheet<'_, ShapeCountBoolean>,
     finder: &mut F,
 ) -> anyhow::Result<RunAnswer> {
-    match sheet.run(finder, BUDGET) {
-        Ok(answer) => Ok(answer),
-        Err(_) => Err(anyhow!("a round is refused")),
-    }
-}
-
-fn plain(p: IntPoint) -> PlainPoint {
-    PlainPoint { x: p.x, y: p.y }
+    sheet
+        .run(finder, BUDGET)
+        .map_err(|_| anyhow!("a round is refused"))
 }

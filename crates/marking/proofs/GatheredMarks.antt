@@ -1,6 +1,5 @@
 -- The marks of a sheet, gathered by a finder that was shown its edges.
-use Rattle.std.proofs.Common.{◌≡◌, ℕ, ◌≤◌, true, false, leb, ◌↔◌, List, map, length, take, replicate, Ok, Err, Result, sym, refl, ap, ◌∙◌, subst, arith, MatchResult}
-use lib.ListN.{length-replicate}
+use Rattle.std.proofs.Common.{◌≡◌, ℕ, ◌≤◌, true, leb, ◌↔◌, List, map, length, Ok, Err, Result, sym, ◌∙◌, subst, arith, MatchResult}
 use Rattle.std.proofs.lemmas.List.{length-map}
 use Rattle.std.proofs.lemmas.Result.{MatchResult-weaker}
 use Rattle.std.proofs.lemmas.Bool.{cond-true, le-leb}
@@ -13,7 +12,6 @@ use Rattle.finder.specs.Boxes.{LeastBox, edges_box}
 use Rattle.finder.specs.Filling.{ByNeed, FitsBelow, FullAt, Suitable, filling}
 use Rattle.finder.proofs.Showing.{suitable}
 use Rattle.segm.specs.Counts.{CountKind}
-use Rattle.segm.specs.Marks.{blank_mark}
 use Rattle.segm.specs.Segments.{ends_of}
 use Rattle.segm.specs.declared.line_mark.LineMark.{LineMark}
 use Rattle.segm.specs.declared.segment.Segment.{Segment}
@@ -23,15 +21,8 @@ use Rattle.rounds.proofs.PairMarksTold.{told_exactly, some_exactly}
 use Rattle.history.specs.Rounds.{Use, Shown}
 use Rattle.history.specs.Sheets.{Page, Sound, ends, mark_places}
 use Rattle.history.specs.declared.answers.RoundAnswer.{RoundAnswer}
-use Rattle.marking.specs.Gathering.{AllProper, Gathered, Noted, PairsMarked, Unpieced, finder_full, marks_full}
-
--- a blank table lists no mark
-blank_noted : (n : ℕ) → Noted (λ _. false) (replicate n blank_mark) 0
-blank_noted n = record {
-  marked = record { ordered = record { ascending = tt; filled = tt }; each = λ m. refl };
-  fits = omega arith;
-  blank = ap (λ (k : ℕ). replicate k blank_mark) (simp length-replicate (omega arith));
-}
+use Rattle.table.specs.declared.ordered_table.NoRoom.{NoRoom}
+use Rattle.marking.specs.Gathering.{AllProper, Gathered, PairsMarked, Unpieced, finder_full, marks_full}
 
 module _ {C : Type 0} (K : CountKind C) (u : Use) (s : Page C) (sound : Sound K s) (b : Box) where
   few : length (ends s) ≤ 4096
@@ -54,19 +45,19 @@ module _ {C : Type 0} (K : CountKind C) (u : Use) (s : Page C) (sound : Sound K 
       (subst (λ (c : Box). FitsBelow u.need u.capacity c (ends s) (length (ends s))) value (by (fit least)))
 
   module _ (walks : Walks) (m m' : Meaning) (is : m ≡ filling b (length (ends s)) (ends s) u.capacity) (value : b ≡ edges_box (ends s)) (room : Shown u s)
-      (table : List LineMark) (a : RoundAnswer) (h : PairsMarked walks m m' s.exponent (ends s) table a) where
+      (marks : List LineMark) (a : RoundAnswer) (h : PairsMarked walks m m' s.exponent (ends s) marks a) where
     begins : walks b (counted (length (ends s))) (ends s) h.pairs × Walk (ends s) h.pairs
     begins = subst (λ (z : Meaning). MayCome walks z h.pairs) is h.allowed
 
-    number : counted (length (ends s)) ≡ length s.edges
-    number = cond-true (leb (length (ends s)) 4096) _ _ (le-leb _ _ few) ∙ length-map s.edges ends_of
+    announced : counted (length (ends s)) ≡ length s.edges
+    announced = cond-true (leb (length (ends s)) 4096) _ _ (le-leb _ _ few) ∙ length-map s.edges ends_of
 
-    listed : MarksOf s.exponent (ends s) (take a.marks table)
+    listed : MarksOf s.exponent (ends s) marks
     listed = record {
-      ordered = h.noted.marked.ordered;
+      ordered = h.noted.ordered;
       each = λ x.
           let told = told_exactly s.exponent (ends s) sheet (ordered_distinct K s.edges sound.ordered) h.pairs begins.1 x in
-          let held = h.noted.marked.each x in
+          let held = h.noted.each x in
           (λ e. told.0 (sym held ∙ e), λ t. held ∙ told.1 t);
     }
 
@@ -75,15 +66,15 @@ module _ {C : Type 0} (K : CountKind C) (u : Use) (s : Page C) (sound : Sound K 
         let some = some_exactly s.exponent (ends s) sheet (ordered_distinct K s.edges sound.ordered) h.pairs begins.1 in
         (λ e. some.0 (sym h.flag ∙ e), λ t. h.flag ∙ some.1 t)
 
-    gathered : Gathered walks u s table a
+    gathered : Gathered walks u s marks a
     gathered = record {
       shown = room;
       pairs = h.pairs;
-      came = subst (λ (c : Box). walks c (length s.edges) (ends s) h.pairs) value (subst (λ (n : ℕ). walks b n (ends s) h.pairs) number begins.0);
+      came = subst (λ (c : Box). walks c (length s.edges) (ends s) h.pairs) value (subst (λ (n : ℕ). walks b n (ends s) h.pairs) announced begins.0);
       walk = begins.1;
       taken = h.number;
       marked = listed;
-      fits = h.noted.fits;
+      number = h.many;
       flag = flagged;
     }
 
@@ -96,24 +87,22 @@ module _ {C : Type 0} (K : CountKind C) (u : Use) (s : Page C) (sound : Sound K 
       e refused
 
   -- what is known of edges that a finder was shown, and of the marks of its pairs at the exponent t
-  pub record NotedAll (walks : Walks) (m m' : Meaning) (marks table : List LineMark) (r : Result RoundAnswer Fault) (xs : List (Segment C)) (t : ℕ) : Type 0 where
+  pub record NotedAll (walks : Walks) (m m' : Meaning) (marks : List LineMark) (n : ℕ) (r : Result RoundAnswer NoRoom) (xs : List (Segment C)) (t : ℕ) : Type 0 where
     pub least : LeastBox (map ends_of xs) b
     pub value : b ≡ edges_box (map ends_of xs)
     pub is : m ≡ filling b (length (map ends_of xs)) (map ends_of xs) u.capacity
     pub by_need : Suitable b (map ends_of xs) → ByNeed u.need u.capacity b (map ends_of xs) (Ok tt)
-    pub noted : AllProper xs → Noted (λ _. false) marks 0
-        → MatchResult r (λ a. PairsMarked walks m m' t (map ends_of xs) table a) (λ f. (f ≡ MarksFull) × MoreMarks t (map ends_of xs) (length marks))
+    pub noted : AllProper xs → MatchResult r (λ a. PairsMarked walks m m' t (map ends_of xs) marks a) (λ _. MoreMarks t (map ends_of xs) n)
 
-  module _ (walks : Walks) (m m' : Meaning) (marks table : List LineMark) (r : Result RoundAnswer Fault) where
-    all_gathered : marks ≡ replicate (mark_places s.lengths) blank_mark → NotedAll walks m m' marks table r s.edges s.exponent → MatchResult r (λ a. Gathered walks u s table a) (λ f. Unpieced u s f)
-    all_gathered blank h =
+  module _ (walks : Walks) (m m' : Meaning) (marks : List LineMark) (n : ℕ) (r : Result RoundAnswer NoRoom) where
+    all_gathered : n ≡ mark_places s.lengths → NotedAll walks m m' marks n r s.edges s.exponent → MatchResult r (λ a. Gathered walks u s marks a) (λ _. Unpieced u s MarksFull)
+    all_gathered is h =
         let room = shown h.least h.value h.by_need in
-        let long : length marks ≡ mark_places s.lengths = ap length blank ∙ length-replicate (mark_places s.lengths) blank_mark in
-        MatchResult-weaker r (h.noted sound.proper (subst (λ (l : List LineMark). Noted (λ _. false) l 0) (sym blank) (blank_noted (mark_places s.lengths))))
-        (λ a w. gathered walks m m' h.is h.value room table a w)
-        (λ f w. subst (Unpieced u s) (sym w.0) (marks_full room (subst (MoreMarks s.exponent (ends s)) long w.1)))
+        MatchResult-weaker r (h.noted sound.proper)
+        (λ a w. gathered walks m m' h.is h.value room marks a w)
+        (λ _ w. marks_full room (subst (MoreMarks s.exponent (ends s)) is w))
 
-    pub gather_done : (xs : List (Segment C)) (t : ℕ) → s.edges ≡ xs → s.exponent ≡ t → marks ≡ replicate (mark_places s.lengths) blank_mark
-        → NotedAll walks m m' marks table r xs t → MatchResult r (λ a. Gathered walks u s table a) (λ f. Unpieced u s f)
-    gather_done xs t e p blank h =
-        all_gathered blank (subst (NotedAll walks m m' marks table r s.edges) (sym p) (subst (λ (ys : List (Segment C)). NotedAll walks m m' marks table r ys t) (sym e) h))
+    pub gather_done : (xs : List (Segment C)) (t : ℕ) → s.edges ≡ xs → s.exponent ≡ t → n ≡ mark_places s.lengths
+        → NotedAll walks m m' marks n r xs t → MatchResult r (λ a. Gathered walks u s marks a) (λ _. Unpieced u s MarksFull)
+    gather_done xs t e p is h =
+        all_gathered is (subst (NotedAll walks m m' marks n r s.edges) (sym p) (subst (λ (ys : List (Segment C)). NotedAll walks m m' marks n r ys t) (sym e) h))

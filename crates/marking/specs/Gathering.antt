@@ -1,14 +1,12 @@
 -- A table that marks come to, and the marks of the pairs that a finder gives.
-use Rattle.std.specs.Prelude.{◌≡◌, ℕ, ◌≤◌, Bool, true, false, ◌||◌, ◌↔◌, List, [], ◌∷◌, length, take, Result, MatchResult}
-use Rattle.table.specs.Contents.{content, BlankBehind}
+use Rattle.std.specs.Prelude.{◌≡◌, ℕ, Bool, true, false, ◌||◌, ◌↔◌, List, [], length, Result, MatchResult}
+use Rattle.table.specs.Contents.{Content, records}
 use Rattle.table.specs.Listings.{Ordered}
 use Rattle.plane.specs.Edges.{Edge, Proper}
-use Rattle.plane.specs.Models.{points_of}
-use Rattle.plane.specs.Rules.{In, marked_on, rounded?}
-use Rattle.plane.specs.declared.cross_solver.CrossMarks.{CrossMarks}
+use Rattle.plane.specs.Rules.{In}
 use Rattle.plane.specs.declared.fault.Fault.{Fault}
 use Rattle.plane.specs.declared.fault.Fault.TheVariants.{FinderFull, MarksFull}
-use Rattle.finder.specs.Finders.{Pair, Meaning, Needs, Walks, MayCome, walking_on, edge_at, Walk}
+use Rattle.finder.specs.Finders.{Pair, Meaning, Needs, Walks, MayCome, walking_on, Walk}
 use Rattle.finder.specs.Boxes.{edges_box}
 use Rattle.finder.specs.Filling.{FullAt}
 use Rattle.segm.specs.MarkKind.{mark_kind}
@@ -17,17 +15,14 @@ use Rattle.segm.specs.Segments.{ends_of}
 use Rattle.segm.specs.declared.segment.Segment.{Segment}
 use Rattle.segm.specs.declared.line_mark.LineMark.{LineMark}
 use Rattle.rounds.specs.Marks.{MarksOf, MoreMarks, SomeRounded}
-use Rattle.rounds.specs.Spots.{Spot, spots, at_one?, all_spots, any_rounded?}
-use Rattle.plane.specs.PointOf.{point_of}
+use Rattle.rounds.specs.Spots.{Spot, at_one?, all_spots, any_rounded?}
 use Rattle.history.specs.Rounds.{Use, Shown}
 use Rattle.history.specs.Sheets.{Page, ends, mark_places}
 use Rattle.history.specs.declared.answers.RoundAnswer.{RoundAnswer}
 
--- the first n places of a table list the marks that P tells, and all others are blank
-pub record Noted (P : LineMark → Bool) (table : List LineMark) (n : ℕ) : Type 0 where
-  pub marked : Marked P (take n table)
-  pub fits : n ≤ length table
-  pub blank : BlankBehind mark_kind (content table n (length table))
+-- a table lists the marks that P tells
+abbrev pub Noted : (LineMark → Bool) → Content LineMark → Type 0
+Noted P table = Marked P (records table)
 
 -- P tells more than n marks: n in strict order, and another
 pub record Overflow (P : LineMark → Bool) (n : ℕ) : Type 0 where
@@ -39,43 +34,39 @@ pub record Overflow (P : LineMark → Bool) (n : ℕ) : Type 0 where
   pub new : holds? held another ≡ false
   pub told : P another ≡ true
 
--- the marks at the spots came to a table; it is refused only where there are then more than places
-abbrev pub Notes : List Spot → List LineMark → ℕ → List LineMark → Result ℕ Fault → Type 0
-Notes ts before n after r = (P : LineMark → Bool) → Noted P before n
-    → MatchResult r (λ m. Noted (λ x. P x || at_one? ts x) after m) (λ f. (f ≡ MarksFull) × Overflow (λ x. P x || at_one? ts x) (length before))
+-- a table has as many places, and as much room, as it had
+pub record SameSize (before after : Content LineMark) : Type 0 where
+  pub room : after.room ≡ before.room
+  pub places : length after.places ≡ length before.places
 
--- all pairs that a finder gave were marked in a table, and it has none left
-pub record PairsMarked (walks : Walks) (before after : Meaning) (s : ℕ) (es : List Edge) (table : List LineMark) (a : RoundAnswer) : Type 0 where
+-- the marks at the spots came to a table; it is refused only where there are then more than it has room for
+abbrev pub Notes : {T E : Type 0} → List Spot → Content LineMark → Content LineMark → Result T E → Type 0
+Notes ts before after r = (P : LineMark → Bool) → Noted P before
+    → MatchResult r (λ _. Noted (λ x. P x || at_one? ts x) after) (λ _. Overflow (λ x. P x || at_one? ts x) before.room)
+
+-- all pairs that a finder gave were marked, and it has none left
+pub record PairsMarked (walks : Walks) (before after : Meaning) (s : ℕ) (es : List Edge) (marks : List LineMark) (a : RoundAnswer) : Type 0 where
   pub pairs : List Pair
   pub allowed : MayCome walks before pairs
   pub left : after ≡ walking_on [] before
   pub number : a.pairs ≡ length pairs
-  pub noted : Noted (at_one? (all_spots s es pairs)) table a.marks
+  pub noted : Marked (at_one? (all_spots s es pairs)) marks
+  pub many : a.marks ≡ length marks
   pub flag : a.is_rounded ≡ any_rounded? s es pairs
-
--- the spot that a mark marks
-abbrev pub mark_spot : LineMark → List Spot
-mark_spot m = spots m.index (point_of m.point ∷ [])
 
 -- every edge has its first end before its second
 abbrev pub AllProper : {C : Type 0} → List (Segment C) → Type 0
 AllProper {C} l = (e : Segment C) → In e l → Proper (ends_of e)
 
--- what the crossing of edges i and j marks on each
-pub record Crossed (s : ℕ) (es : List Edge) (i j : ℕ) (c : CrossMarks) : Type 0 where
-  pub first : points_of c.first ≡ marked_on (edge_at es i) (edge_at es j) s
-  pub second : points_of c.second ≡ marked_on (edge_at es j) (edge_at es i) s
-  pub flag : c.is_round ≡ rounded? (edge_at es i) (edge_at es j) s
-
--- the marks of a sheet were gathered into the first places of a table by the pairs of some walk of the finder's
-pub record Gathered {C : Type 0} (walks : Walks) (u : Use) (s : Page C) (table : List LineMark) (a : RoundAnswer) : Type 0 where
+-- the marks of a sheet were gathered by the pairs of some walk of the finder's
+pub record Gathered {C : Type 0} (walks : Walks) (u : Use) (s : Page C) (marks : List LineMark) (a : RoundAnswer) : Type 0 where
   pub shown : Shown u s
   pub pairs : List Pair
   pub came : walks (edges_box (ends s)) (length s.edges) (ends s) pairs
   pub walk : Walk (ends s) pairs
   pub taken : a.pairs ≡ length pairs
-  pub marked : MarksOf s.exponent (ends s) (take a.marks table)
-  pub fits : a.marks ≤ length table
+  pub marked : MarksOf s.exponent (ends s) marks
+  pub number : a.marks ≡ length marks
   pub flag : (a.is_rounded ≡ true) ↔ SomeRounded s.exponent (ends s)
 
 -- why gathering is refused: for want of room in the finder, or of places for marks

@@ -1,145 +1,122 @@
 //! The marks of all pairs that a finder gives.
-ghost use Rattle.std.specs.Prelude.{◌≡◌, ◌<◌, ◌≤◌, false, map, length, replicate, IfOk, MatchOption, MatchResult};
-ghost use Rattle.plane.specs.Edges.{Proper};
-ghost use Rattle.plane.specs.Models.{edge_of, points_of};
-ghost use Rattle.plane.specs.declared.fault.Fault.TheVariants.{MarksFull};
-ghost use Rattle.segm.specs.Marks.{blank_mark};
+ghost use Rattle.std.specs.Prelude.{◌≡◌, ◌<◌, false, [], ◌∷◌, map, length, IfOk, MatchResult};
+ghost use Rattle.plane.specs.Models.{points_of};
+ghost use Rattle.plane.specs.PointOf.{point_of};
+ghost use Rattle.plane.specs.Rules.{rounded?};
+ghost use Rattle.finder.specs.Finders.{edge_at};
 ghost use Rattle.segm.specs.Segments.{ends_of};
+ghost use Rattle.table.specs.Tables.{content_of, records_of};
 ghost use Rattle.rounds.specs.Marks.{MoreMarks};
-ghost use Rattle.rounds.specs.Spots.{spots};
+ghost use Rattle.rounds.specs.Spots.{pair_spots, spots};
 ghost use Rattle.history.specs.Sheets.{Page, Sound, mark_places};
 ghost use Rattle.marking.specs.Gathering.{use_of};
-ghost use Rattle.marking.specs.Gathering.{AllProper, Crossed, Gathered, Noted, Notes, PairsMarked, Unpieced, mark_spot};
+ghost use Rattle.marking.specs.Gathering.{AllProper, Gathered, Notes, PairsMarked, SameSize, Unpieced};
 
 use finder::filling::{extent_of, fill};
 use finder::finding::Finder;
 use history::answers::RoundAnswer;
-use plane::cross_solver::{CrossMarks, CrossSolver, EdgeMarks};
+use plane::cross_solver::{CrossSolver, EdgeMarks};
 use plane::fault::Fault;
+use plane::int_point::IntPoint;
 use plane::snap_radius::SnapRadius;
 use plane::x_segment::XSegment;
+use segm::joining::join_mark;
 use segm::line_mark::LineMark;
 use segm::segment::Segment;
 use segm::winding::WindingCount;
-use table::places::insert;
+use table::ordered_table::{NoRoom, OrderedTable};
 
-const NOTHING: CrossMarks = CrossMarks {
-    first: EdgeMarks::Zero,
-    second: EdgeMarks::Zero,
-    is_round: false,
-};
-
-/// Shows the edges to a finder, and marks the crossings of all pairs that it gives in a blank table.
+/// Shows the edges to a finder, and marks the crossings of all pairs that it gives in an empty table.
 pub fn gather<C: WindingCount, F: Finder>(
     edges: &[Segment<C>],
     finder: &mut F,
-    marks: &mut [LineMark],
+    marks: &mut OrderedTable<'_, LineMark>,
     radius: SnapRadius,
 ) -> Result<RoundAnswer, Fault>
-    ensures marks { (s : Page C) → Sound C.WindingCount.kind s → s.edges ≡ edges.now → s.exponent ≡ radius.current → marks.old ≡ replicate (mark_places s.lengths) blank_mark → MatchResult result (λ a. Gathered F.Finder.walks (use_of F.Finder.need (F.Finder.meaning finder.old)) s marks.new a) (λ f. Unpieced (use_of F.Finder.need (F.Finder.meaning finder.old)) s f) }
-    ensures within { IfOk result (λ a. a.marks ≤ length marks.old) }
+    ensures marks { (s : Page C) → Sound C.WindingCount.kind s → s.edges ≡ edges.now → s.exponent ≡ radius.current → records_of marks.old ≡ [] → marks.old.room ≡ mark_places s.lengths → MatchResult result (λ a. Gathered F.Finder.walks (use_of F.Finder.need (F.Finder.meaning finder.old)) s (records_of marks.new) a) (λ f. Unpieced (use_of F.Finder.need (F.Finder.meaning finder.old)) s f) }
+    ensures number { IfOk result (λ a. a.marks ≡ length (records_of marks.new)) }
+    ensures size { SameSize (content_of marks.old) (content_of marks.new) }
     ensures capacity { (F.Finder.meaning finder.new).capacity ≡ (F.Finder.meaning finder.old).capacity }
 {
     fill(edges, extent_of(edges), finder)?;
-    mark_pairs(edges, finder, marks, radius)
+    mark_pairs(edges, finder, marks, radius).map_err(|_| Fault::MarksFull)
 }
 
-/// Takes all pairs from a finder that was shown the edges, and marks their crossings in a blank table.
+/// Takes all pairs from a finder that was shown the edges, and marks their crossings.
 fn mark_pairs<C: WindingCount, F: Finder>(
     edges: &[Segment<C>],
     finder: &mut F,
-    marks: &mut [LineMark],
+    marks: &mut OrderedTable<'_, LineMark>,
     radius: SnapRadius,
-) -> Result<RoundAnswer, Fault>
+) -> Result<RoundAnswer, NoRoom>
     requires shown { (F.Finder.meaning finder.old).shown ≡ map ends_of edges.now }
     requires filling { (F.Finder.meaning finder.old).walking ≡ false }
-    ensures marks { AllProper edges.now → Noted (λ _. false) marks.old 0 → MatchResult result (λ a. PairsMarked F.Finder.walks (F.Finder.meaning finder.old) (F.Finder.meaning finder.new) radius.current (map ends_of edges.now) marks.new a) (λ f. (f ≡ MarksFull) × MoreMarks radius.current (map ends_of edges.now) (length marks.old)) }
-    ensures within { IfOk result (λ a. a.marks ≤ length marks.old) }
+    ensures marks { AllProper edges.now → records_of marks.old ≡ [] → MatchResult result (λ a. PairsMarked F.Finder.walks (F.Finder.meaning finder.old) (F.Finder.meaning finder.new) radius.current (map ends_of edges.now) (records_of marks.new) a) (λ _. MoreMarks radius.current (map ends_of edges.now) marks.old.room) }
+    ensures number { IfOk result (λ a. a.marks ≡ length (records_of marks.new)) }
+    ensures size { SameSize (content_of marks.old) (content_of marks.new) }
     ensures capacity { (F.Finder.meaning finder.new).capacity ≡ (F.Finder.meaning finder.old).capacity }
 {
-    let mut used = 0;
     let mut is_rounded = false;
     let mut pairs = 0;
     while let Some((i, j)) = finder.next() {
-        let crossed = cross_pair(edges, i, j, radius);
-        used = note_points(marks, used, i, crossed.first)?;
-        used = note_points(marks, used, j, crossed.second)?;
-        is_rounded = is_rounded || crossed.is_round;
+        is_rounded |= mark_pair(edges, i, j, marks, radius)?;
         pairs += 1;
     }
     Ok(RoundAnswer {
-        marks: used,
+        marks: marks.len(),
         is_rounded,
         pairs,
     })
 }
 
-/// What the crossing of two edges of the list marks on each.
-fn cross_pair<C: WindingCount>(
+/// Marks the crossing of two edges of the list on each, and tells whether it is rounded.
+fn mark_pair<C: WindingCount>(
     edges: &[Segment<C>],
     i: usize,
     j: usize,
+    marks: &mut OrderedTable<'_, LineMark>,
     radius: SnapRadius,
-) -> CrossMarks
+) -> Result<bool, NoRoom>
     requires first { i < length edges.now }
     requires second { j < length edges.now }
-    ensures { AllProper edges.now → Crossed radius.current (map ends_of edges.now) i j result }
+    ensures notes { AllProper edges.now → Notes (pair_spots radius.current (map ends_of edges.now) (i, j)) (content_of marks.old) (content_of marks.new) result }
+    ensures flag { AllProper edges.now → IfOk result (λ told. told ≡ rounded? (edge_at (map ends_of edges.now) i) (edge_at (map ends_of edges.now) j) radius.current) }
+    ensures size { SameSize (content_of marks.old) (content_of marks.new) }
 {
-    // No edge of a sheet is left out here.
-    let Some(first) = edge(edges[i]) else {
-        return NOTHING;
+    let (Ok(first), Ok(second)) = (XSegment::try_from(edges[i]), XSegment::try_from(edges[j]))
+    else {
+        // No edge of a sheet is left out here.
+        return Ok(false);
     };
-    let Some(second) = edge(edges[j]) else {
-        return NOTHING;
-    };
-    CrossSolver::marks(&first, &second, radius)
+    let crossed = CrossSolver::marks(&first, &second, radius);
+    note_points(marks, i, crossed.first)?;
+    note_points(marks, j, crossed.second)?;
+    Ok(crossed.is_round)
 }
 
-/// The edge of a segment whose first end is before its second.
-fn edge<C: WindingCount>(segment: Segment<C>) -> Option<XSegment>
-    ensures { MatchOption result (¬ Proper (ends_of segment)) (λ e. edge_of e ≡ ends_of segment) }
-{
-    let a = segment.a;
-    let b = segment.b;
-    if a.x < b.x || (a.x <= b.x && a.y < b.y) {
-        Some(XSegment { a, b })
-    } else {
-        None
-    }
-}
-
-/// Brings points that a crossing marks on an edge to a table of marks.
+/// Brings the points that a crossing marks on an edge to a table of marks.
 fn note_points(
-    marks: &mut [LineMark],
-    used: usize,
+    marks: &mut OrderedTable<'_, LineMark>,
     index: usize,
     points: EdgeMarks,
-) -> Result<usize, Fault>
-    ensures notes { Notes (spots index (points_of points)) marks.old used marks.new result }
-    ensures within { used ≤ length marks.old → IfOk result (λ n. n ≤ length marks.old) }
+) -> Result<(), NoRoom>
+    ensures notes { Notes (spots index (points_of points)) (content_of marks.old) (content_of marks.new) result }
+    ensures size { SameSize (content_of marks.old) (content_of marks.new) }
 {
     match points {
-        EdgeMarks::Zero => Ok(used),
-        EdgeMarks::One(point) => note(marks, used, LineMark { index, point }),
+        EdgeMarks::Zero => Ok(()),
+        EdgeMarks::One(point) => note(marks, index, point),
         EdgeMarks::Two(point, other) => {
-            let used = note(marks, used, LineMark { index, point })?;
-            let second = LineMark {
-                index,
-                point: other,
-            };
-            note(marks, used, second)
+            note(marks, index, point)?;
+            note(marks, index, other)
         }
     }
 }
 
-/// Brings one mark to a table.
-fn note(marks: &mut [LineMark], used: usize, mark: LineMark) -> Result<usize, Fault>
-    ensures notes { Notes (mark_spot mark) marks.old used marks.new result }
-    ensures within { used ≤ length marks.old → IfOk result (λ n. n ≤ length marks.old) }
+/// Brings one point on an edge to a table of marks.
+fn note(marks: &mut OrderedTable<'_, LineMark>, index: usize, point: IntPoint) -> Result<(), NoRoom>
+    ensures notes { Notes (spots index (point_of point ∷ [])) (content_of marks.old) (content_of marks.new) result }
+    ensures size { SameSize (content_of marks.old) (content_of marks.new) }
 {
-    let room = marks.len();
-    match insert(marks, used, room, mark) {
-        Some(used) => Ok(used),
-        None => Err(Fault::MarksFull),
-    }
+    join_mark(marks, LineMark { index, point })
 }

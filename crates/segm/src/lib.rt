@@ -11,4 +11,5 @@ pub mod open_ends;
 pub mod order;
 pub mod parity;
 pub mod segment;
+pub mod segment_edge;
 pub mod winding;

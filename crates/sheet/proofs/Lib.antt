@@ -1,10 +1,10 @@
 pub mod Layouts
+pub mod Variants
+pub mod Fields
 pub mod Putting
 pub mod RoundTables
-pub mod Copies
-pub mod Moves
 pub mod Directing
+pub mod Reading
 pub mod Running
-pub mod Lying
 pub mod Tested
 pub mod Worked

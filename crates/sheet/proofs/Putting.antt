@@ -1,11 +1,10 @@
 -- A put, from what the table's insertion says.
-use Rattle.std.proofs.Common.{◌≡◌, ℕ, ◌-◌, ◌≤◌, min, Bool, true, false, cond, not, ◌&&◌, ◌||◌, leb, List, [], ◌∷◌, ◌++◌, length, take, replicate, Some, None, Ok, sym, refl, ap, ◌∙◌, arith, length-take-le}
+use Rattle.std.proofs.Common.{◌≡◌, ℕ, Bool, true, false, cond, not, ◌&&◌, ◌||◌, leb, List, [], ◌∷◌, length, Some, None, Ok, Err, sym, refl, ap, ◌∙◌, subst, arith, length-take-le}
 use Rattle.std.specs.Ordering.{is_eq}
 use Rattle.std.proofs.lemmas.Bool.{both_ways, leb-true, le-leb, and_parts}
 use Rattle.table.specs.Contents as table
-use Rattle.table.specs.Contents.{content, Came, Refused, NoPlace}
+use Rattle.table.specs.Contents.{Content, Came, Refused, records}
 use Rattle.table.specs.Listings.{record_at}
-use Rattle.table.proofs.Soundness.{sound_came}
 use Rattle.plane.specs.Points.{Point, before?}
 use Rattle.plane.specs.Edges.{Edge}
 use Rattle.plane.specs.Models.{edge_between}
@@ -14,19 +13,15 @@ use Rattle.plane.specs.declared.fault.Fault.TheVariants.{EndsEqual, CoordinateOu
 use Rattle.finder.specs.Finders.{in_range?}
 use Rattle.segm.specs.Counts.{CountKind}
 use Rattle.segm.specs.Orders.{point_order, edge_order}
-use Rattle.segm.specs.Segments.{ends_of, blank_segment}
+use Rattle.segm.specs.Segments.{ends_of}
 use Rattle.segm.specs.SegmentKind.{segment_kind}
 use Rattle.segm.specs.Balance.{when, counts, count_at}
 use Rattle.segm.specs.declared.segment.Segment.{Segment}
 use Rattle.segm.proofs.Adding.{came_adds}
 use Rattle.segm.proofs.Groups.{inverse_inverse, inverse_neutral}
 use Rattle.history.specs.Sheets.{Page, Sound, changed, edge_places, listed?, put_refusal, put_count, put_counts, Put}
-use Rattle.history.specs.declared.sheet_state.SheetState.{SheetState}
 use Rattle.history.specs.declared.sheet_state.SheetState.TheVariants.{Raw}
-use Rattle.history.proofs.Given.{facts}
-use Rattle.history.proofs.Sound.{put_sound}
 use Rattle.sheet.specs.Models.{early_refusal}
-use Rattle.sheet.proofs.Layouts.{blank_behind, laid_out}
 
 -- the last check, behind those that do not look at the sheet
 late : (a b c d : Bool) → cond a (Some EndsEqual) (cond b (Some CoordinateOutside) (cond c (Some CountEmpty) None)) ≡ None
@@ -80,82 +75,58 @@ module _ {C : Type 0} (K : CountKind C) where
           let none : c ≡ K.neutral = sym (inverse_inverse K c) ∙ ap K.inverse (K.empty_neutral (K.inverse c) e) ∙ inverse_neutral K in
           absurd (both_ways (K.empty? c) h (ap K.empty? none ∙ K.neutral_empty))
 
-  -- the sheet of the fields
-  abbrev page : List (Segment C) → ℕ → SheetState → ℕ → ℕ → ℕ → ℕ → ℕ → Page C
-  page t used state e start step m k = record { edges = take used t; state = state; exponent = e; start = start; step = step; lengths = record { edges = length t; spare = m; marks = k } }
-
-  module _ (p q : Point) (c : C) (g : Segment C) (t t' : List (Segment C)) (used room : ℕ) (state : SheetState) (e start step m k : ℕ) where
-    abbrev before : Page C
-    before = page t used state e start step m k
-
+  module _ (p q : Point) (c : C) (g : Segment C) (s : Page C) (edges edges' : Content (Segment C)) where
     -- what is known of the table as the put begins
     pub record Begun : Type 0 where
-      pub sound : Sound K before
-      pub laid : t ≡ take used t ++ replicate (length t - length (take used t)) (blank_segment K)
-      pub fits : used ≤ min (min (length t) m) 4096
-      pub room_is : room ≡ min (min (length t) m) 4096
+      pub sound : Sound K s
+      pub listed : s.edges ≡ records edges
+      pub room : edges.room ≡ edge_places s.lengths
+      pub table_sound : table.Sound (segment_kind K) edges
       pub passed : early_refusal K p q c ≡ None
       pub ends : ends_of g ≡ edge_between p q
       pub counts_as : g.count ≡ put_count K p q c
-
-    table_sound : Begun → table.Sound (segment_kind K) (content t used room)
-    table_sound b =
-        let l = b.fits in let r = b.room_is in
-        record { fits = omega arith; roomy = omega arith; ordered = b.sound.ordered; blank = blank_behind (blank_segment K) t used (omega arith) b.laid }
 
     filled : Begun → K.empty? g.count ≡ false
     filled b = ap K.empty? b.counts_as ∙ kept_filled c (not_empty (is_eq (point_order p q)) (not (in_range? p && in_range? q)) (K.empty? c) b.passed) (before? q p)
 
     abbrev full? : Bool
-    full? = not (listed? (edge_between p q) (take used t)) && leb (edge_places before.lengths) (length (take used t))
+    full? = not (listed? (edge_between p q) s.edges) && leb (edge_places s.lengths) (length s.edges)
 
-    refusal_is : Begun → put_refusal K p q c before ≡ cond full? (Some SheetFull) None
+    refusal_is : Begun → put_refusal K p q c s ≡ cond full? (Some SheetFull) None
     refusal_is b = late (is_eq (point_order p q)) (not (in_range? p && in_range? q)) (K.empty? c) full? b.passed
 
     as_counted : Begun → (x : Edge) → counts K x g ≡ put_counts K p q c x
     as_counted b x = λ i. when K (is_eq (edge_order x (b.ends i))) (b.counts_as i)
 
-    pub record Ended (n : ℕ) : Type 0 where
-      pub put : Put K p q c before (page t' n Raw start start step m k) (Ok tt)
-      pub sound : Sound K (page t' n Raw start start step m k)
-      pub laid : t' ≡ take n t' ++ replicate (length t' - length (take n t')) (blank_segment K)
-      pub fits : n ≤ min (min (length t') m) 4096
-      pub long : length t' ≡ length t
+    used_is : Begun → length s.edges ≡ edges.used
+    used_is b =
+        let t = b.table_sound in
+        let f = t.fits in let r = t.roomy in
+        ap length b.listed ∙ length-take-le edges.used edges.places (omega arith)
 
-    pub put_ended : (n : ℕ) → Begun → Came (segment_kind K) g (content t used room) (content t' n room) → Ended n
-    put_ended n b h =
-        let was = table_sound b in
-        let is = sound_came (segment_kind K) g (content t used room) (content t' n room) h was in
-        let adds = came_adds K g (content t used room) (content t' n room) b.sound.ordered h in
-        let fresh = adds.still_counting (λ x. count_at K x (take used t)) (record { ordered = b.sound.ordered; each = λ x. refl }) in
-        let r = b.room_is in let long : length t' ≡ length t = h.long in let le : n ≤ room = h.fits in
-        let out = laid_out (blank_segment K) t' n (omega arith) is.blank in
-        let leaves : page t' n Raw start start step m k ≡ changed before (take n t') Raw start = λ i. record {
-          edges = take n t';
-          state = Raw;
-          exponent = start;
-          start = start;
-          step = step;
-          lengths = record { edges = long i; spare = m; marks = k };
-        } in
-        let done : Put K p q c before (page t' n Raw start start step m k) (Ok tt) = (
+    pub put_ended : (after : Page C) → Begun → Came (segment_kind K) g edges edges' → after ≡ changed s (records edges') Raw s.start → Put K p q c s after (Ok tt)
+    put_ended after b h is =
+        let adds = came_adds K g edges edges' b.table_sound.ordered h in
+        let fresh = adds.still_counting (λ x. count_at K x (records edges)) (record { ordered = b.table_sound.ordered; each = λ x. refl }) in (
           refusal_is b ∙ none full? refl,
           record {
-            list = take n t';
-            counting = record { ordered = fresh.ordered; each = λ x. fresh.each x ∙ ap (K.sum (count_at K x (take used t))) (as_counted b x) };
-            leaves = leaves;
+            list = records edges';
+            counting = record {
+              ordered = fresh.ordered;
+              each = λ x. fresh.each x ∙ (λ i. K.sum (count_at K x (sym b.listed i)) (as_counted b x i));
+            };
+            leaves = is;
           },
-        ) in
-        record { put = done; sound = put_sound K (facts K) p q c before (page t' n Raw start start step m k) (Ok tt) b.sound done; laid = out; fits = omega arith; long = long }
+        )
       where
         none : (x : Bool) → full? ≡ x → cond x (Some SheetFull) None ≡ None
         none false e = refl
         none true e =
-            let two = and_parts (not (listed? (edge_between p q) (take used t))) (leb (edge_places before.lengths) (length (take used t))) e in
-            let le = leb-true (edge_places before.lengths) (length (take used t)) two.1 in
-            let l = b.fits in let r = b.room_is in let few = length-take-le used t (omega arith) in
-            absurd (h.found b.sound.ordered (record {
-              new = unlisted (edge_between p q) g (take used t) b.ends (no_of _ two.0);
+            let two = and_parts (not (listed? (edge_between p q) s.edges)) (leb (edge_places s.lengths) (length s.edges)) e in
+            let le = leb-true (edge_places s.lengths) (length s.edges) two.1 in
+            let n = used_is b in let r = b.room in let t = b.table_sound in let f = t.fits in
+            absurd (h.found b.table_sound.ordered (record {
+              new = subst (λ l. record_at (segment_kind K) l g ≡ None) b.listed (unlisted (edge_between p q) g s.edges b.ends (no_of _ two.0));
               filled = filled b;
               full = omega arith;
             }))
@@ -165,14 +136,17 @@ module _ {C : Type 0} (K : CountKind C) where
             no_of false e = refl
 
     -- a put that finds no place
-    pub put_full : Begun → Refused (segment_kind K) g (content t used room) (content t' used room) → (put_refusal K p q c before ≡ Some SheetFull) × (t' ≡ t)
+    pub put_full : Begun → Refused (segment_kind K) g edges edges' → put_refusal K p q c s ≡ Some SheetFull
     put_full b h =
-        let no = h.reason (table_sound b) in
-        let l = b.fits in let r = b.room_is in let few = length-take-le used t (omega arith) in
+        let no = h.reason b.table_sound in
+        let n = used_is b in let r = b.room in
         let filled_up = no.full in
-        let new : listed? (edge_between p q) (take used t) ≡ false = absent_unlisted (edge_between p q) g (take used t) b.ends no.new in
-        let le : leb (edge_places before.lengths) (length (take used t)) ≡ true = le-leb (edge_places before.lengths) (length (take used t)) (omega arith) in
-        (refusal_is b ∙ (λ i. cond (not (new i) && le i) (Some SheetFull) None), ap (λ (x : table.Content (Segment C)). x.places) h.same)
+        let new : listed? (edge_between p q) s.edges ≡ false = absent_unlisted (edge_between p q) g s.edges b.ends (subst (λ l. record_at (segment_kind K) l g ≡ None) (sym b.listed) no.new) in
+        let le : leb (edge_places s.lengths) (length s.edges) ≡ true = le-leb (edge_places s.lengths) (length s.edges) (omega arith) in
+        refusal_is b ∙ (λ i. cond (not (new i) && le i) (Some SheetFull) None)
+
+    pub put_refused : (after : Page C) (f : Fault) → Begun → Refused (segment_kind K) g edges edges' → f ≡ SheetFull → after ≡ s → Put K p q c s after (Err f)
+    put_refused after f b h is same = (put_full b h ∙ ap Some (sym is), same)
 
   -- a put that is refused by the checks that do not look at the sheet
   pub put_early : (p q : Point) (c : C) (s : Page C) (f : Fault) → early_refusal K p q c ≡ Some f → put_refusal K p q c s ≡ Some f

@@ -1,13 +1,18 @@
 -- A round over the tables, from the marks that were gathered and the pieces that were joined.
-use Rattle.std.proofs.Common.{◌≡◌, ℕ, ◌+◌, ◌-◌, ◌<◌, ◌≤◌, min, max, List, [], ◌++◌, length, take, drop, replicate, sym, refl, ap, ◌∙◌, subst, arith, length-append, length-take-le, drop-drop, take_at}
+use Rattle.std.proofs.Common.{◌≡◌, ℕ, ◌+◌, ◌<◌, ◌≤◌, false, leb, List, [], ◌∷◌, length, take, sym, refl, ap, ◌∙◌, subst, arith}
 use lib.ListN.{length-map, length-replicate}
-use Rattle.std.proofs.lemmas.List.{replicate-append-replicate, drop-replicate}
+use Rattle.std.proofs.lemmas.List.{length-take-le}
+use Rattle.std.proofs.lemmas.Bool.{leb-false}
+use Rattle.table.specs.Contents as table
+use Rattle.table.specs.Contents.{Content, TookOver, records}
 use Rattle.plane.specs.Rules.{In}
 use Rattle.plane.specs.declared.fault.Fault.{Fault}
 use Rattle.plane.specs.declared.fault.Fault.TheVariants.{PiecesFull}
 use Rattle.finder.specs.Finders.{Walks}
 use Rattle.segm.specs.Counts.{CountKind}
 use Rattle.segm.specs.Segments.{ends_of, blank_segment}
+use Rattle.segm.specs.MarkKind.{mark_kind}
+use Rattle.segm.specs.SegmentKind.{segment_kind}
 use Rattle.segm.specs.Balance.{count_at, Counting}
 use Rattle.segm.specs.declared.line_mark.LineMark.{LineMark}
 use Rattle.segm.specs.declared.segment.Segment.{Segment}
@@ -16,199 +21,130 @@ use Rattle.rounds.proofs.MarkLists.{marks_below}
 use Rattle.rounds.proofs.Numbers.{pieces_number}
 use Rattle.rounds.proofs.Proper.{uncut}
 use Rattle.history.specs.Rounds.{Use, RoundDone, RoundRefused, finder_full, marks_full, pieces_full, state_after, exponent_after}
-use Rattle.history.specs.Sheets.{Page, ends, changed}
+use Rattle.history.specs.Sheets.{Page, changed, ends, mark_places}
 use Rattle.history.specs.declared.answers.RoundAnswer.{RoundAnswer}
 use Rattle.history.proofs.Given.{facts}
 use Rattle.history.proofs.Sound.{round_sound}
 use Rattle.cutting.specs.Cutting.{Pieced}
 use Rattle.marking.specs.Gathering as gathering
 use Rattle.marking.specs.Gathering.{Gathered, Unpieced}
-use Rattle.sheet.specs.Rounding.{Came, Lies, Moved, page_after}
-use Rattle.sheet.proofs.Layouts.{blank_behind}
+use Rattle.sheet.specs.Rounding.{Came, Lies, page_after}
 
-module _ {C : Type 0} (K : CountKind C) (walks : Walks) (u : Use) (s : Page C) (edges spare : List (Segment C)) (used : ℕ) (marks : List LineMark) (e : ℕ) (lies : Lies K s edges used spare marks e) where
+module _ {C : Type 0} (K : CountKind C) (walks : Walks) (u : Use) (s : Page C) (edges spare : Content (Segment C)) (marks : List LineMark) (e : ℕ)
+    (lies : Lies K s edges spare marks e) where
   -- gathering was refused
   pub not_gathered : (f : Fault) → Unpieced u s f → RoundRefused u s f
   not_gathered f (gathering.finder_full k h) = finder_full k h
   not_gathered f (gathering.marks_full h more) = marks_full h more
 
-  module _ (table : List LineMark) (a : RoundAnswer) (g : Gathered walks u s table a) where
-    abbrev pub found : List LineMark
-    found = take a.marks table
-
-    count_is : a.marks ≡ length found
-    count_is = sym (length-take-le a.marks table g.fits)
-
-    used_is : used ≤ length edges → length s.edges ≡ used
-    used_is le = ap length lies.listed ∙ length-take-le used edges le
+  module _ (found : List LineMark) (a : RoundAnswer) (g : Gathered walks u s found a) (within : a.marks ≤ mark_places s.lengths) where
+    listed_long : length (records edges) ≡ length s.edges
+    listed_long = sym (ap length lies.listed)
 
     -- edges and marks exceed the places
-    pub too_many : (room : ℕ) → used ≤ length edges → length table ≡ min (length marks) 4096 → room ≡ min (min (length edges) (length spare)) 4096 → room - used < a.marks → used ≤ room → RoundRefused u s PiecesFull
-    too_many room le long is more fits =
-        let n = count_is in let m = used_is le in let f = g.fits in let k = lies.mark_length in let x = lies.edge_length in let y = lies.spare_length in
+    pub too_many : false ≡ leb (length (records edges) + a.marks) edges.room → RoundRefused u s PiecesFull
+    too_many more =
+        let n = g.number in let l = listed_long in let r = lies.edge_room in
+        let x = leb-false (length (records edges) + a.marks) edges.room (sym more) in
         pieces_full g.shown found g.marked (omega arith) (omega arith)
 
-    -- a list that the pieces make, where edges and marks fit
-    pub round_done : (room : ℕ) (l : List (Segment C)) → used ≤ length edges → length table ≡ min (length marks) 4096 → room ≡ min (min (length edges) (length spare)) 4096 → a.marks ≤ room - used → used ≤ room
-        → CutList K found s.edges l → RoundDone K u s (page_after s l a) a
-    round_done room l le long is fits below cut =
-        let n = count_is in let m = used_is le in let f = g.fits in let k = lies.mark_length in let x = lies.edge_length in let y = lies.spare_length in
-        record {
-          shown = g.shown;
-          pairs = g.pairs;
-          walk = g.walk;
-          taken = g.taken;
-          marks = found;
-          marked = g.marked;
-          marks_fit = omega arith;
-          pieces_fit = omega arith;
-          number = n;
-          flag = g.flag;
-          list = l;
-          cut = cut;
-          leaves = λ i. changed s l (state_after (n i) a.is_rounded) (exponent_after (n i) s.exponent s.step);
-        }
+    module _ (fits : length (records edges) + a.marks ≤ edges.room) where
+      -- a list that the pieces make, where edges and marks fit
+      pub round_done : (l : List (Segment C)) → CutList K found s.edges l → RoundDone K u s (page_after s l a) a
+      round_done l cut =
+          let n = g.number in let m = listed_long in let r = lies.edge_room in
+          record {
+            shown = g.shown;
+            pairs = g.pairs;
+            walk = g.walk;
+            taken = g.taken;
+            marks = found;
+            marked = g.marked;
+            marks_fit = omega arith;
+            pieces_fit = omega arith;
+            number = n;
+            flag = g.flag;
+            list = l;
+            cut = cut;
+            leaves = λ i. changed s l (state_after (n i) a.is_rounded) (exponent_after (n i) s.exponent s.step);
+          }
 
-    pub came : Came walks s a
-    came = record { pairs = g.pairs; allowed = g.came; number = g.taken }
+      pub came : Came walks s a
+      came = record { pairs = g.pairs; allowed = g.came; number = g.taken }
 
-    -- how many pieces there are
-    pub pieces_fit : (room : ℕ) → used ≤ length edges → a.marks ≤ room - used → used ≤ room → length (cut_from K 0 found s.edges) ≤ room
-    pieces_fit room le fits below =
-        let n = count_is in let m = used_is le in
-        let below_all : (x : LineMark) → In x found → x.index < length s.edges = λ x i. subst (λ (z : ℕ). x.index < z) (length-map s.edges ends_of) (marks_below s.exponent (ends s) found g.marked x i) in
-        let p = pieces_number K found s.edges below_all in
-        omega arith
+      -- more pieces than places there never are
+      pub never_crowded : (ps : List (Segment C)) → ps ≡ cut_from K 0 found s.edges → spare.room < 0 + length ps → ⊥
+      never_crowded ps same more =
+          let n = g.number in let m = listed_long in
+          let below_all : (x : LineMark) → In x found → x.index < length s.edges = λ x i. subst (λ (z : ℕ). x.index < z) (length-map s.edges ends_of) (marks_below s.exponent (ends s) found g.marked x i) in
+          let p = pieces_number K found s.edges below_all in
+          let k = ap length same in let r = lies.edge_room in let w = lies.spare_room in
+          omega arith
 
-    -- no marks: the list is its own
-    pub nothing_cut : a.marks ≡ 0 → CutList K found s.edges s.edges
-    nothing_cut z =
-        let none : found ≡ [] = ap (λ (k : ℕ). take k table) z in
-        let same : cut_from K 0 found s.edges ≡ s.edges = ap (λ (ms : List LineMark). cut_from K 0 ms s.edges) none ∙ uncut K 0 s.edges lies.sound.proper in
-        record { ordered = lies.sound.ordered; each = λ x. ap (count_at K x) (sym same) }
+      -- no marks: the list is its own
+      pub nothing_cut : a.marks ≡ 0 → CutList K found (s.edges) (records edges)
+      nothing_cut z =
+          let none : found ≡ [] = no_marks found (sym g.number ∙ z) in
+          let same : cut_from K 0 found s.edges ≡ s.edges = ap (λ (ms : List LineMark). cut_from K 0 ms s.edges) none ∙ uncut K 0 s.edges lies.sound.proper in
+          subst (λ l. CutList K found s.edges l) lies.listed (record { ordered = lies.sound.ordered; each = λ x. ap (count_at K x) (sym same) })
+        where
+          no_marks : (l : List LineMark) → length l ≡ 0 → l ≡ []
+          no_marks [] h = refl
+          no_marks (x ∷ l) h = let no : ⊥ = omega arith in absurd no
 
-    -- the sheet lies in the tables again
-    pub still_lies : (l edges' spare' : List (Segment C)) (n : ℕ) → RoundDone K u s (page_after s l a) a → l ≡ take n edges'
-        → edges' ≡ l ++ replicate (length edges' - length l) (blank_segment K) → spare' ≡ replicate (length spare') (blank_segment K)
-        → length edges' ≡ length edges → length spare' ≡ length spare
-        → Lies K (page_after s l a) edges' n spare' marks (page_after s l a).exponent
-    still_lies l edges' spare' n done listed behind spared long wide = record {
-      sound = round_sound K (facts K) u s (page_after s l a) a lies.sound done;
-      listed = listed;
-      behind = behind;
-      spared = spared;
-      unmarked = lies.unmarked;
-      edge_length = long ∙ lies.edge_length;
-      spare_length = wide ∙ lies.spare_length;
-      mark_length = lies.mark_length;
-      exponent = refl;
-    }
+      -- what the round leaves: the sheet after it, which lies in the tables again
+      pub record Left (edges' spare' : Content (Segment C)) : Type 0 where
+        pub done : RoundDone K u s (page_after s (records edges') a) a
+        pub lies_again : Lies K (page_after s (records edges') a) edges' spare' marks (page_after s (records edges') a).exponent
+        pub came : Came walks s a
 
--- the list of the spare came into the place of the edges
-module _ {C : Type 0} (K : CountKind C) (edges spare joined edges' spare' : List (Segment C)) (used n room : ℕ) (ps : List (Segment C))
-    (p : Pieced K ps room joined n) (m : Moved K joined n edges used spare' edges')
-    (long : length joined ≡ length spare) (le : used ≤ length edges) (roomy : room ≤ length edges)
-    (behind : drop used edges ≡ replicate (length edges - used) (blank_segment K)) where
-  abbrev blanks : ℕ → List (Segment C)
-  blanks k = replicate k (blank_segment K)
+      left : (edges' spare' : Content (Segment C)) → CutList K found s.edges (records edges') → edges'.room ≡ edges.room → spare'.used ≡ 0 → spare'.room ≡ edges.room
+          → length edges'.places ≡ length edges.places → length spare'.places ≡ length spare.places → Left edges' spare'
+      left edges' spare' cut room emptied other long wide =
+          let done = round_done (records edges') cut in
+          record {
+            done = done;
+            lies_again = record {
+              sound = round_sound K (facts K) u s (page_after s (records edges') a) a lies.sound done;
+              listed = refl;
+              emptied = emptied;
+              edge_room = room ∙ lies.edge_room;
+              spare_room = other ∙ lies.edge_room;
+              edge_length = long ∙ lies.edge_length;
+              spare_length = wide ∙ lies.spare_length;
+              mark_length = lies.mark_length;
+              exponent = refl;
+            };
+            came = came;
+          }
 
-  n_fits : n ≤ length joined
-  n_fits = let f = p.fits in let r = p.roomy in omega arith
+      pub left_whole : a.marks ≡ 0 → Left edges spare
+      left_whole z = left edges spare (nothing_cut z) refl lies.emptied (lies.spare_room ∙ sym lies.edge_room) refl refl
 
-  pub moved_listed : take n joined ≡ take n edges'
-  moved_listed = sym (ap (take n) m.edges_are ∙ take_at (take n joined) _ n (length-take-le n joined n_fits))
+      pub left_cut : (joined edges' spare' : Content (Segment C)) (ps : List (Segment C)) → ps ≡ cut_from K 0 found s.edges → Pieced K ps joined → joined.room ≡ spare.room → length joined.places ≡ length spare.places
+          → TookOver (segment_kind K) edges joined edges' spare' → Left edges' spare'
+      left_cut joined edges' spare' ps same p room long took =
+          left edges' spare' (subst (λ l. CutList K found s.edges l) (sym took.listed) (subst (λ l. Counting K (λ x. count_at K x l) (records joined)) same p.counting))
+          took.room (ap (λ (t : Content (Segment C)). t.used) took.emptied)
+          (ap (λ (t : Content (Segment C)). t.room) took.emptied ∙ room ∙ lies.spare_room ∙ sym lies.edge_room)
+          took.long
+          (ap (λ (t : Content (Segment C)). length t.places) took.emptied ∙ length-replicate (length joined.places) (blank_segment K) ∙ long)
 
-  -- what is behind the moved list is blank
-  rest_blank : blanks (used - n) ++ drop (max n used) edges ≡ blanks (length edges - n)
-  rest_blank =
-      let k : max n used ≡ used + (max n used - used) = omega arith in
-      let f = p.fits in
-      let most : max n used ≤ length edges = omega arith in
-      ap (λ (j : ℕ). blanks (used - n) ++ drop j edges) k
-      ∙ ap (λ l. blanks (used - n) ++ l) (sym (drop-drop (max n used - used) used edges) ∙ ap (drop (max n used - used)) behind ∙ drop_blanks (max n used - used) (length edges - used))
-      ∙ blanks_more (used - n) (length edges - used - (max n used - used))
-      ∙ ap (λ (j : ℕ). blanks j) (omega arith)
-    where
-      drop_blanks : (i j : ℕ) → drop i (blanks j) ≡ blanks (j - i)
-      drop_blanks i j = drop-replicate i j (blank_segment K)
+      -- and what was joined finds room among the edges
+      pub never_refused : (joined : Content (Segment C)) → table.Sound (segment_kind K) joined → joined.room ≡ spare.room → edges.room < length (records joined) → ⊥
+      never_refused joined sound room more =
+          let f = sound.fits in let t = sound.roomy in
+          let n : length (records joined) ≡ joined.used = length-take-le joined.used joined.places (omega arith) in
+          let r = lies.edge_room in let w = lies.spare_room in
+          omega arith
 
-      blanks_more : (i j : ℕ) → blanks i ++ blanks j ≡ blanks (i + j)
-      blanks_more i j = replicate-append-replicate i j (blank_segment K)
+-- no more marks than the room of their table
+pub few_marks : (before after : Content LineMark) (n a : ℕ) → table.Sound mark_kind after → after.room ≡ before.room → before.room ≡ n → a ≡ length (records after) → a ≤ n
+few_marks before after n a sound same room many =
+    let f = sound.fits in let t = sound.roomy in
+    let l : length (records after) ≡ after.used = length-take-le after.used after.places (omega arith) in
+    omega arith
 
-  moved_is : edges' ≡ take n joined ++ blanks (length edges - n)
-  moved_is = m.edges_are ∙ ap (λ l. take n joined ++ l) rest_blank
-
-  pub moved_long : length edges' ≡ length edges
-  moved_long =
-      let f = p.fits in
-      ap length moved_is ∙ length-append (take n joined) (blanks (length edges - n)) ∙ (λ i. length-take-le n joined n_fits i + length-replicate (length edges - n) (blank_segment K) i) ∙ omega arith
-
-  pub moved_behind : edges' ≡ take n joined ++ replicate (length edges' - length (take n joined)) (blank_segment K)
-  moved_behind =
-      let x = moved_long in let y = length-take-le n joined n_fits in
-      moved_is ∙ ap (λ (j : ℕ). take n joined ++ blanks j) (omega arith)
-
-  spare_is : spare' ≡ blanks (length joined)
-  spare_is =
-      m.spare_is ∙ ap (λ l. blanks n ++ l) p.blank ∙ replicate-append-replicate n (length joined - n) (blank_segment K)
-      ∙ (let f = n_fits in ap (λ (j : ℕ). blanks j) (omega arith))
-
-  pub moved_wide : length spare' ≡ length spare
-  moved_wide = ap length spare_is ∙ length-replicate (length joined) (blank_segment K) ∙ long
-
-  pub moved_spared : spare' ≡ replicate (length spare') (blank_segment K)
-  moved_spared = spare_is ∙ ap (λ (j : ℕ). blanks j) (sym (ap length spare_is ∙ length-replicate (length joined) (blank_segment K)))
-
--- a round that found marks, in the words of the code
-module _ {C : Type 0} (K : CountKind C) (walks : Walks) (u : Use) (s : Page C) (edges spare : List (Segment C)) (used : ℕ) (marks : List LineMark) (e : ℕ) (lies : Lies K s edges used spare marks e)
-    (table : List LineMark) (a : RoundAnswer) (g : Gathered walks u s table a) (room : ℕ) (le : used ≤ min (min (length edges) (length spare)) 4096)
-    (long : length table ≡ min (length marks) 4096) (is : room ≡ min (min (length edges) (length spare)) 4096) where
-  -- what the round leaves: the sheet after it, which lies in the tables again
-  pub record Left (edges' spare' : List (Segment C)) (n : ℕ) : Type 0 where
-    pub done : RoundDone K u s (page_after s (take n edges') a) a
-    pub lies_again : Lies K (page_after s (take n edges') a) edges' n spare' marks (page_after s (take n edges') a).exponent
-
-  pub left_whole : a.marks ≤ room - used → a.marks ≡ 0 → Left edges spare used
-  left_whole fits z =
-      let cut = subst (λ l. CutList K (take a.marks table) s.edges l) lies.listed (nothing_cut K walks u s edges spare used marks e lies table a g z) in
-      let done = round_done K walks u s edges spare used marks e lies table a g room (take used edges) (omega arith) long is fits (omega arith) cut in
-      record {
-        done = done;
-        lies_again = still_lies K walks u s edges spare used marks e lies table a g (take used edges) edges spare used done refl
-            (subst (λ l. edges ≡ l ++ replicate (length edges - length l) (blank_segment K)) lies.listed lies.behind) lies.spared refl refl;
-      }
-
-  -- a table that lists nothing yet
-  pub pieced_none : Pieced K [] room spare 0
-  pieced_none =
-      let n : length spare ≡ length spare - 0 = omega arith in
-      record {
-        counting = record { ordered = record { ascending = tt; filled = tt }; each = λ x. refl };
-        fits = omega arith;
-        roomy = omega arith;
-        blank = lies.spared ∙ ap (λ (k : ℕ). replicate k (blank_segment K)) n;
-      }
-
-  pub never_crowded : (ps : List (Segment C)) → ps ≡ cut_from K 0 (take a.marks table) s.edges → a.marks ≤ room - used → room < 0 + length ps → ⊥
-  never_crowded ps same fits more =
-      let f = pieces_fit K walks u s edges spare used marks e lies table a g room (omega arith) fits (omega arith) in
-      let n = ap length same in
-      omega arith
-
-  pub left_cut : (ps joined edges' spare' : List (Segment C)) (n : ℕ) → ps ≡ cut_from K 0 (take a.marks table) s.edges → a.marks ≤ room - used
-      → Pieced K ps room joined n → length joined ≡ length spare → Moved K joined n edges used spare' edges' → Left edges' spare' n
-  left_cut ps joined edges' spare' n same fits p wide m =
-      let behind = blank_behind (blank_segment K) edges used (omega arith) (subst (λ l. edges ≡ l ++ replicate (length edges - length l) (blank_segment K)) lies.listed lies.behind) in
-      let low : used ≤ length edges = omega arith in
-      let enough : room ≤ length edges = omega arith in
-      let listed = moved_listed K edges spare joined edges' spare' used n room ps p m wide low enough behind in
-      let cut = subst (λ l. CutList K (take a.marks table) s.edges l) listed (subst (λ l. Counting K (λ x. count_at K x l) (take n joined)) same p.counting) in
-      let done = round_done K walks u s edges spare used marks e lies table a g room (take n edges') low long is fits (omega arith) cut in
-      record {
-        done = done;
-        lies_again = still_lies K walks u s edges spare used marks e lies table a g (take n edges') edges' spare' n done refl
-            (subst (λ l. edges' ≡ l ++ replicate (length edges' - length l) (blank_segment K)) listed (moved_behind K edges spare joined edges' spare' used n room ps p m wide low enough behind))
-            (moved_spared K edges spare joined edges' spare' used n room ps p m wide low enough behind)
-            (moved_long K edges spare joined edges' spare' used n room ps p m wide low enough behind)
-            (moved_wide K edges spare joined edges' spare' used n room ps p m wide low enough behind);
-      }
+-- a table that lists nothing yet
+pub pieced_none : {C : Type 0} (K : CountKind C) (t : Content (Segment C)) → t.used ≡ 0 → Pieced K [] t
+pieced_none K t e = record { counting = subst (λ (n : ℕ). Counting K (λ x. count_at K x []) (take n t.places)) (sym e) (record { ordered = record { ascending = tt; filled = tt }; each = λ x. refl }) }

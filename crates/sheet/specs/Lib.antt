@@ -1,3 +1,4 @@
+pub mod Fields
 pub mod Rounding
 pub mod Models
 pub mod Worked

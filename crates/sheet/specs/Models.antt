@@ -1,5 +1,7 @@
 -- The sheet that the fields of the code stand for, and what a call does to it.
-use Rattle.std.specs.Prelude.{◌≡◌, Bool, true, false, cond, not, ◌&&◌, length, take, Some, None, Ok, Err, Option, Result}
+use Rattle.std.specs.Prelude.{◌≡◌, ℕ, cond, not, ◌&&◌, List, length, Some, None, Ok, Err, Option, Result}
+use Rattle.table.specs.Contents.{Content, records}
+use Rattle.table.specs.Tables.{content_of}
 use Rattle.std.specs.Ordering.{is_eq}
 use Rattle.plane.specs.Points.{Point}
 use Rattle.plane.specs.Models.{edge_between}
@@ -9,42 +11,44 @@ use Rattle.finder.specs.Finders.{in_range?}
 use Rattle.segm.specs.Counts.{CountKind}
 use Rattle.segm.specs.Orders.{point_order}
 use Rattle.segm.specs.Segments.{ends_of}
+use Rattle.segm.specs.declared.line_mark.LineMark.{LineMark}
 use Rattle.segm.specs.declared.segment.Segment.{Segment}
 use Rattle.segm.specs.declared.winding.WindingCount.{Ghosts}
+use Rattle.table.specs.declared.keyed.Keyed.{Ghosts as Keys}
 use Rattle.history.specs.Histories.{Call, Answer, Leaves}
 use Rattle.history.specs.Rounds.{Use}
 use Rattle.history.specs.Sheets.{Page, Tables, Sound, tables_of, put_count}
 use Rattle.history.specs.declared.sheet_state.SheetState.{SheetState}
-use Rattle.history.specs.declared.sheet_state.SheetState.TheVariants.{Raw, Rounded, Clean}
 use Rattle.sheet.specs.declared.sheet.Sheet.{Sheet}
 
-abbrev pub page_of : {C : Type 0} {W : Ghosts C} → Sheet C W → Page C
-page_of s = record {
-  edges = take s.used s.edges.now;
-  state = s.state;
-  exponent = s.radius.current;
-  start = s.start;
-  step = s.radius.step;
-  lengths = record { edges = length s.edges.now; spare = length s.spare.now; marks = length s.marks.now };
-}
+module _ {C : Type 0} where
+  -- the sheet over two tables of edges and places for marks
+  abbrev pub page_in : Content (Segment C) → Content (Segment C) → List LineMark → SheetState → ℕ → ℕ → ℕ → Page C
+  page_in edges spare marks state e start step = record {
+    edges = records edges;
+    state = state;
+    exponent = e;
+    start = start;
+    step = step;
+    lengths = record { edges = length edges.places; spare = length spare.places; marks = length marks };
+  }
 
-abbrev pub tables_in : {C : Type 0} {W : Ghosts C} → Sheet C W → Tables C
-tables_in s = record { edges = s.edges.now; spare = s.spare.now; marks = s.marks.now }
+module _ {C : Type 0} {W : Ghosts C} {G : Keys (Segment C)} where
+  abbrev pub page_of : Sheet C W G → Page C
+  page_of s = page_in (content_of s.edges) (content_of s.spare) s.marks.now s.state s.radius.current s.start s.radius.step
 
-abbrev pub clean? : SheetState → Bool
-clean? Raw = false
-clean? Rounded = false
-clean? Clean = true
+  abbrev pub tables_in : Sheet C W G → Tables C
+  tables_in s = record { edges = (content_of s.edges).places; spare = (content_of s.spare).places; marks = s.marks.now }
 
-module _ {C : Type 0} {W : Ghosts C} (K : CountKind C) where
-  -- the edges of a sheet are in order, and all else in its tables is blank. Opening gives such a sheet, and every call keeps it so
-  pub record Held (s : Sheet C W) : Type 0 where
+module _ {C : Type 0} {W : Ghosts C} {G : Keys (Segment C)} (K : CountKind C) where
+  -- the edges of a sheet are in order, and all else in its tables is blank
+  pub record Held (s : Sheet C W G) : Type 0 where
     pub sound : Sound K (page_of s)
     pub tables : tables_in s ≡ tables_of K (page_of s)
 
-  -- a call on a sheet that is held leaves and answers what the rules lay down, and the sheet is held again
-  abbrev pub Does : (w : Call C) → Use → Sheet C W → Sheet C W → Answer w → Type 0
-  Does w u before after a = Held before → Held after × Leaves K w u (page_of before) (page_of after) a
+  -- a call on a sheet leaves and answers what the rules lay down, and leaves the sheet held
+  abbrev pub Does : (w : Call C) → Use → Sheet C W G → Sheet C W G → Answer w → Type 0
+  Does w u before after a = Held after × Leaves K w u (page_of before) (page_of after) a
 
 module _ {C : Type 0} (K : CountKind C) where
   -- the refusal of a put by the checks that do not look at the sheet

@@ -5,12 +5,12 @@ ghost use Rattle.history.specs.Histories.Call.{put, round, run};
 ghost use Rattle.history.specs.Laws.{HistoryLaws};
 ghost use Rattle.history.specs.Rounds.{Use, exponent_after, state_after};
 ghost use Rattle.history.specs.Sheets.{opening};
-ghost use Rattle.sheet.specs.Models.{Directed, Does, Held, clean?, page_of};
+ghost use Rattle.sheet.specs.Models.{Directed, Does, Held, page_of};
 ghost use Rattle.marking.specs.Gathering.{use_of};
 ghost use Rattle.sheet.specs.Rounding.{Came};
 ghost use Rattle.sheet.specs.Worked.{WorkedSheets};
 
-use crate::rounding::{MOST_EDGES, round_tables};
+use crate::rounding::round_tables;
 use crate::sheet::Sheet;
 use finder::checking::in_range;
 use finder::finding::Finder;
@@ -22,9 +22,11 @@ use plane::snap_radius::SnapRadius;
 use segm::line_mark::LineMark;
 use segm::segment::Segment;
 use segm::winding::WindingCount;
-use std::mem;
-use table::keyed::Keyed;
-use table::places::{blank_all, insert};
+use table::ordered_table::OrderedTable;
+use table::places::blank_all;
+
+/// The most edges on a sheet.
+const MOST_EDGES: usize = 4096;
 
 /// The largest budget of a run.
 const LARGEST_BUDGET: u32 = 64;
@@ -43,14 +45,12 @@ impl<'a, C: WindingCount> Sheet<'a, C> {
         ensures laws { HistoryLaws C.WindingCount.kind }
         ensures worked { WorkedSheets }
     {
-        blank_all(edges);
-        blank_all(spare);
         blank_all(marks);
+        let room = edges.len().min(spare.len()).min(MOST_EDGES);
         Sheet {
-            edges,
-            spare,
+            edges: OrderedTable::open(edges, room),
+            spare: OrderedTable::open(spare, room),
             marks,
-            used: 0,
             start,
             radius: SnapRadius::new(start, step),
             state: SheetState::Raw,
@@ -62,16 +62,7 @@ impl<'a, C: WindingCount> Sheet<'a, C> {
         ensures opened { page_of self.new ≡ opening (page_of self.old).lengths start step }
         ensures held { Held C.WindingCount.kind self.new }
     {
-        let edges = mem::replace(&mut self.edges, &mut []);
-        let spare = mem::replace(&mut self.spare, &mut []);
-        let marks = mem::replace(&mut self.marks, &mut []);
-        blank_all(edges);
-        blank_all(spare);
-        blank_all(marks);
-        self.edges = edges;
-        self.spare = spare;
-        self.marks = marks;
-        self.used = 0;
+        self.edges.clear();
         self.start = start;
         self.radius = SnapRadius::new(start, step);
         self.state = SheetState::Raw;
@@ -82,45 +73,28 @@ impl<'a, C: WindingCount> Sheet<'a, C> {
         ensures { (u : Use) → Does C.WindingCount.kind (put (plain_point a) (plain_point b) count) u self.old self.new result }
     {
         let segment = directed_segment(a, b, count)?;
-        let Sheet {
-            edges,
-            spare,
-            used,
-            start,
-            radius,
-            state,
-            ..
-        } = self;
-        let room = edges.len().min(spare.len()).min(MOST_EDGES);
-        match insert(edges, *used, room, segment) {
-            Some(count) => {
-                *used = count;
-                radius.current = *start;
-                *state = SheetState::Raw;
-                Ok(())
-            }
-            None => Err(Fault::SheetFull),
-        }
+        self.edges.insert(segment).map_err(|_| Fault::SheetFull)?;
+        self.radius.current = self.start;
+        self.state = SheetState::Raw;
+        Ok(())
     }
 
     /// Cuts the edges once wherever two touch.
     pub fn round<F: Finder>(&mut self, finder: &mut F) -> Result<RoundAnswer, Fault>
         ensures leaves { Does C.WindingCount.kind round (use_of F.Finder.need (F.Finder.meaning finder.old)) self.old self.new result }
-        ensures pairs { Held C.WindingCount.kind self.old → IfOk result (λ a. Came F.Finder.walks (page_of self.old) a) }
+        ensures pairs { IfOk result (λ a. Came F.Finder.walks (page_of self.old) a) }
         ensures capacity { (F.Finder.meaning finder.new).capacity ≡ (F.Finder.meaning finder.old).capacity }
     {
-        let edges = mem::replace(&mut self.edges, &mut []);
-        let spare = mem::replace(&mut self.spare, &mut []);
-        let marks = mem::replace(&mut self.marks, &mut []);
-        let result = round_tables(edges, self.used, spare, marks, self.radius, finder);
-        self.edges = edges;
-        self.spare = spare;
-        self.marks = marks;
-        let outcome = result?;
-        self.used = outcome.used;
-        self.state = state_after(outcome.answer);
-        self.radius = radius_after(outcome.answer, self.radius);
-        Ok(outcome.answer)
+        let answer = round_tables(
+            &mut self.edges,
+            &mut self.spare,
+            self.marks,
+            self.radius,
+            finder,
+        )?;
+        self.state = state_after(answer);
+        self.radius = radius_after(answer, self.radius);
+        Ok(answer)
     }
 
     /// Rounds, until the sheet is clean or the budget is used.
@@ -134,13 +108,14 @@ impl<'a, C: WindingCount> Sheet<'a, C> {
                 rounds: 0,
             });
         }
+        // The rounds are counted since they are answered.
         let mut rounds = 0;
         let mut has_marks = false;
-        while rounds < budget && !is_clean(self.state) {
-            match self.round(finder) {
-                Ok(answer) => has_marks = has_marks || answer.marks > 0,
-                Err(fault) => return Err(RunFault { fault, rounds }),
-            }
+        while rounds < budget && self.state != SheetState::Clean {
+            let answer = self
+                .round(finder)
+                .map_err(|fault| RunFault { fault, rounds })?;
+            has_marks |= answer.marks > 0;
             rounds += 1;
         }
         Ok(RunAnswer {
@@ -182,23 +157,12 @@ fn state_after(answer: RoundAnswer) -> SheetState
 }
 
 /// The snap exponent that a round leaves: it grows where there were marks.
-fn radius_after(answer: RoundAnswer, radius: SnapRadius) -> SnapRadius
+fn radius_after(answer: RoundAnswer, mut radius: SnapRadius) -> SnapRadius
     ensures current { result.current ≡ exponent_after answer.marks radius.current radius.step }
     ensures step { result.step ≡ radius.step }
 {
-    let mut radius = radius;
     if answer.marks > 0 {
         radius.increment();
     }
     radius
-}
-
-/// Whether no two edges touch.
-fn is_clean(state: SheetState) -> bool
-    ensures { result ≡ clean? state }
-{
-    match state {
-        SheetState::Clean => true,
-        _ => false,
-    }
 }

@@ -14,20 +14,14 @@ impl<C: WindingCount> Sheet<'_, C> {
     pub fn number_of_edges(&mut self) -> usize
         ensures { (u : Use) → Does C.WindingCount.kind read_number u self.old self.new result }
     {
-        let Sheet { used, .. } = self;
-        *used
+        self.edges.len()
     }
 
     /// The edge of a number, from 0 on.
     pub fn edge(&mut self, i: usize) -> Result<Segment<C>, Fault>
         ensures { (u : Use) → Does C.WindingCount.kind (read_edge i) u self.old self.new result }
     {
-        if i < self.used {
-            let edge = self.edges[i];
-            Ok(edge)
-        } else {
-            Err(Fault::NoSuchEdge)
-        }
+        self.edges.get(i).ok_or(Fault::NoSuchEdge)
     }
 
     /// How far the sheet has come.

@@ -81,4 +81,12 @@ impl<'a, R: Keyed> OrderedTable<'a, R> {
         other.clear();
         Ok(())
     }
+
+    /// The records, given back to be changed in place: what becomes of them is no table any more.
+    pub fn into_records(self) -> &'a mut [R]
+        ensures { result.now ≡ records_of self.entry }
+    {
+        let OrderedTable { places, used, .. } = self;
+        &mut places[..used]
+    }
 }

@@ -1,3 +1,4 @@
+use Rattle.table.specs.Tables.{content_of}
 use Rattle.finder.proofs.Walking.{pairs_left}
 use Rattle.marking.proofs.PairSpots.{Kept}
 use Rattle.marking.proofs.gathering.mark_pairs.Given as goal
@@ -6,7 +7,7 @@ use Rattle.marking.proofs.gathering.mark_pairs.Given as goal
 abbrev pub invariant-loop-i : goal.invariant-loop-i
 invariant-loop-i g l =
     let F = g.F.Finder in
-    Kept F.walks (F.meaning l.initial.finder) l.radius.current l.edges l.initial.marks (F.meaning l.finder) l.marks l.used l.is_rounded l.pairs
+    Kept F.walks (F.meaning l.initial.finder) l.radius.current l.edges (content_of l.initial.marks) (F.meaning l.finder) (content_of l.marks) l.is_rounded l.pairs
 
 abbrev pub decreases-loop-i : goal.decreases-loop-i
 decreases-loop-i g l = pairs_left (g.F.Finder.meaning l.finder)

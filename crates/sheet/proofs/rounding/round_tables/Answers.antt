@@ -1,130 +1,121 @@
-use Rattle.std.proofs.Common.{◌≡◌, ℕ, ◌-◌, min, [], ◌++◌, length, take, drop, replicate, sym, refl, ap, ◌∙◌, subst, arith, length-take-le}
-use lib.Seq.{length_front, take-append-le}
+-- What each way through a round leaves and answers.
+use Rattle.std.proofs.Common.{◌≡◌, ◌+◌, ◌≤◌, [], length, sym, refl, ap, ◌∙◌, subst, arith}
 use Rattle.std.proofs.lemmas.Result.{err_from_is_err_and}
+use Rattle.std.proofs.lemmas.Bool.{leb-true}
+use Rattle.table.specs.Contents.{Content, records}
 use Rattle.table.specs.Listings.{Ordered}
+use Rattle.table.specs.Tables.{content_of, records_of}
 use Rattle.segm.specs.MarkKind.{mark_kind}
-use Rattle.segm.specs.Marks.{blank_mark}
+use Rattle.segm.specs.declared.line_mark.LineMark.{LineMark}
 use Rattle.rounds.specs.Pieces.{cut_from}
-use Rattle.marking.specs.Gathering.{Gathered}
-use Rattle.marking.specs.Gathering.{use_of}
-use Rattle.sheet.proofs.Moves.{part_blank}
-use Rattle.sheet.proofs.RoundTables.{not_gathered, too_many, came, left_whole, pieced_none, never_crowded, left_cut}
+use Rattle.history.specs.Sheets.{mark_places}
+use Rattle.marking.specs.Gathering.{Gathered, use_of}
+use Rattle.sheet.proofs.RoundTables.{not_gathered, too_many, few_marks, left_whole, left_cut, never_crowded, never_refused, pieced_none}
+use Rattle.sheet.proofs.Variants.{taken, broken}
 use Rattle.sheet.proofs.rounding.round_tables.Goals as goal
 
-pub returns-in_err-answer : goal.returns-in_err-answer
-returns-in_err-answer g c =
+pub returns-in_err-answer-clause-round : goal.returns-in_err-answer-clause-round
+returns-in_err-answer-clause-round g c = λ s lies.
     let p = err_from_is_err_and c.from_residual.result c.from_residual.ensures.1 in
     let K = g.C.WindingCount.kind in let F = g.F.Finder in
     let u = use_of F.need (F.meaning c.args.finder.now) in
-    let m = c.in_err-answer.ensures.marks in
-    let least = c.min-places.ensures in
-    record {
-      round = λ s lies.
-          let places : c.min-places.result - 0 ≡ min (length c.args.marks.now) 4096 = omega arith in
-          rw (p.1, p.2) (
-            not_gathered K F.walks u s c.args.edges.now c.args.spare.now c.args.used c.args.marks.now c.args.radius.current lies _
-                (m s lies.sound (lies.listed ∙ sym c.front.ensures) (sym lies.exponent) (part_blank blank_mark c.args.marks.now (c.min-places.result - 0) s.lengths.marks lies.unmarked places lies.mark_length)),
-            refl,
-            refl,
-          );
-      within = rw p.1 tt;
-      marks = c.drop-guard.ensures ∙ ap (λ (k : ℕ). replicate k blank_mark) (length_front c.args.marks.now c.gather.new.marks (c.min-places.result - 0) c.gather.auto.marks);
-      capacity = c.in_err-answer.ensures.capacity;
-    }
+    let E = content_of c.args.edges.now in let S = content_of c.args.spare.now in
+    let opened = c.open-table.ensures.content in
+    let none : records_of c.open-table.result ≡ [] = ap (λ (t : Content LineMark). records t) opened in
+    let room : c.open-table.result.room ≡ mark_places s.lengths = let r = ap (λ (t : Content LineMark). t.room) opened in let m = lies.mark_length in omega arith in
+    rw (p.1, p.2) (not_gathered K F.walks u s E S c.args.marks.now c.args.radius.current lies _ (c.in_err-answer.ensures.marks s lies.sound (lies.listed ∙ sym c.records.ensures) (sym lies.exponent) none room), refl, refl)
 
-pub returns-then-count-room : goal.returns-then-count-room
-returns-then-count-room g c =
+pub returns-then-not-has_room_for-clause-round : goal.returns-then-not-has_room_for-clause-round
+returns-then-not-has_room_for-clause-round g c = λ s lies.
     let K = g.C.WindingCount.kind in let F = g.F.Finder in
     let u = use_of F.need (F.meaning c.args.finder.now) in
-    let m = c.in_ok-answer.ensures.marks in
-    let least = c.min-places.ensures in
-    let places : c.min-places.result - 0 ≡ min (length c.args.marks.now) 4096 = omega arith in
-    let long : length c.gather.new.marks ≡ min (length c.args.marks.now) 4096 = c.gather.auto.marks ∙ length-take-le (c.min-places.result - 0) c.args.marks.now (omega arith) ∙ places in
-    let room : c.min-room.result ≡ min (min (length c.args.edges.now) (length c.args.spare.now)) 4096 = c.min-room.ensures ∙ ap (λ (k : ℕ). min k 4096) c.min.ensures in
-    let below = c.requires in
-    record {
-      round = λ s lies.
-          let found : Gathered F.walks u s c.gather.new.marks c.in_ok-answer.answer = m s lies.sound (lies.listed ∙ sym c.front.ensures) (sym lies.exponent) (part_blank blank_mark c.args.marks.now (c.min-places.result - 0) s.lengths.marks lies.unmarked places lies.mark_length) in
-          (too_many K F.walks u s c.args.edges.now c.args.spare.now c.args.used c.args.marks.now c.args.radius.current lies c.gather.new.marks c.in_ok-answer.answer found c.min-room.result (omega arith) long room c.if-count-room.true (omega arith), refl, refl);
-      within = tt;
-      marks = c.drop-guard-then-count-room.ensures ∙ ap (λ (k : ℕ). replicate k blank_mark) (length_front c.args.marks.now c.gather.new.marks (c.min-places.result - 0) c.gather.auto.marks);
-      capacity = c.in_ok-answer.ensures.capacity;
-    }
-
-pub returns-then-count-eq0 : goal.returns-then-count-eq0
-returns-then-count-eq0 g c =
-    let K = g.C.WindingCount.kind in let F = g.F.Finder in
-    let u = use_of F.need (F.meaning c.args.finder.now) in
-    let m = c.in_ok-answer.ensures.marks in
-    let least = c.min-places.ensures in
-    let places : c.min-places.result - 0 ≡ min (length c.args.marks.now) 4096 = omega arith in
-    let long : length c.gather.new.marks ≡ min (length c.args.marks.now) 4096 = c.gather.auto.marks ∙ length-take-le (c.min-places.result - 0) c.args.marks.now (omega arith) ∙ places in
-    let room : c.min-room.result ≡ min (min (length c.args.edges.now) (length c.args.spare.now)) 4096 = c.min-room.ensures ∙ ap (λ (k : ℕ). min k 4096) c.min.ensures in
-    record {
-      round = λ s lies.
-          let found : Gathered F.walks u s c.gather.new.marks c.in_ok-answer.answer = m s lies.sound (lies.listed ∙ sym c.front.ensures) (sym lies.exponent) (part_blank blank_mark c.args.marks.now (c.min-places.result - 0) s.lengths.marks lies.unmarked places lies.mark_length) in
-          let left = left_whole K F.walks u s c.args.edges.now c.args.spare.now c.args.used c.args.marks.now c.args.radius.current lies c.gather.new.marks c.in_ok-answer.answer found c.min-room.result c.requires long room c.if-count-room.false c.if-count-eq0.true in
-          (left.done, left.lies_again, came K F.walks u s c.args.edges.now c.args.spare.now c.args.used c.args.marks.now c.args.radius.current lies c.gather.new.marks c.in_ok-answer.answer found);
-      within = c.requires;
-      marks = c.drop-guard-then-count-eq0.ensures ∙ ap (λ (k : ℕ). replicate k blank_mark) (length_front c.args.marks.now c.gather.new.marks (c.min-places.result - 0) c.gather.auto.marks);
-      capacity = c.in_ok-answer.ensures.capacity;
-    }
-
-pub returns-in_err-cut : goal.returns-in_err-cut
-returns-in_err-cut g c =
-    let p = err_from_is_err_and c.from_residual-in_err-cut.result c.from_residual-in_err-cut.ensures.1 in
-    let K = g.C.WindingCount.kind in let F = g.F.Finder in
-    let u = use_of F.need (F.meaning c.args.finder.now) in
-    let m = c.in_ok-answer.ensures.marks in
-    let least = c.min-places.ensures in
-    let G = c.gather.new.marks in let D = drop (c.min-places.result - 0) c.args.marks.now in
+    let E = content_of c.args.edges.now in let S = content_of c.args.spare.now in
+    let opened = c.open-table.ensures.content in
+    let none : records_of c.open-table.result ≡ [] = ap (λ (t : Content LineMark). records t) opened in
+    let room : c.open-table.result.room ≡ mark_places s.lengths = let r = ap (λ (t : Content LineMark). t.room) opened in let m = lies.mark_length in omega arith in
+    let t = c.gather.new.marks in
     let a = c.in_ok-answer.answer in
-    let places : c.min-places.result - 0 ≡ min (length c.args.marks.now) 4096 = omega arith in
-    let long : length G ≡ min (length c.args.marks.now) 4096 = c.gather.auto.marks ∙ length-take-le (c.min-places.result - 0) c.args.marks.now (omega arith) ∙ places in
-    let room : c.min-room.result ≡ min (min (length c.args.edges.now) (length c.args.spare.now)) 4096 = c.min-room.ensures ∙ ap (λ (k : ℕ). min k 4096) c.min.ensures in
-    record {
-      round = λ s lies.
-          let found : Gathered F.walks u s G a = m s lies.sound (lies.listed ∙ sym c.front.ensures) (sym lies.exponent) (part_blank blank_mark c.args.marks.now (c.min-places.result - 0) s.lengths.marks lies.unmarked places lies.mark_length) in
-          let fits = found.fits in
-          let M = take (a.marks - 0) (G ++ D) in
-          let zero : a.marks - 0 ≡ a.marks = omega arith in
-          let own : M ≡ take a.marks G = take-append-le (a.marks - 0) G D (omega arith) ∙ ap (λ (k : ℕ). take k G) zero in
-          let ordered : Ordered mark_kind M = subst (Ordered mark_kind) (sym own) found.marked.ordered in
-          let ps = cut_from K 0 M c.front-2.result.now in
-          let same : ps ≡ cut_from K 0 (take a.marks G) s.edges = λ i. cut_from K 0 (own i) ((c.front-2.ensures ∙ sym lies.listed) i) in
-          let none = pieced_none K F.walks u s c.args.edges.now c.args.spare.now c.args.used c.args.marks.now c.args.radius.current lies G a found c.min-room.result c.requires long room in
-          absurd (never_crowded K F.walks u s c.args.edges.now c.args.spare.now c.args.used c.args.marks.now c.args.radius.current lies G a found c.min-room.result c.requires long room ps same c.if-count-room.false (c.in_err-cut.ensures.pieces ordered [] none));
-      within = rw p.1 tt;
-      marks = c.drop-guard-in_err-cut.ensures ∙ ap (λ (k : ℕ). replicate k blank_mark) (length_front (G ++ D) c.cut_edges.new.marks (a.marks - 0) c.cut_edges.auto.marks ∙ length_front c.args.marks.now G (c.min-places.result - 0) c.gather.auto.marks);
-      capacity = c.in_ok-answer.ensures.capacity;
-    }
+    let known = c.in_ok-answer.ensures in
+    let found : Gathered F.walks u s (records_of t) a = known.marks s lies.sound (lies.listed ∙ sym c.records.ensures) (sym lies.exponent) none room in
+    let within : a.marks ≤ mark_places s.lengths = few_marks (content_of c.open-table.result) (content_of t) (mark_places s.lengths) a.marks t.sound known.size.room room known.number in
+    (too_many K F.walks u s E S c.args.marks.now c.args.radius.current lies (records_of t) a found within c.if-not-has_room_for.ensures, refl, refl)
 
-pub returns : goal.returns
-returns g c =
+pub returns-in_err-cut_edges-clause-round : goal.returns-in_err-cut_edges-clause-round
+returns-in_err-cut_edges-clause-round g c = λ s lies.
     let K = g.C.WindingCount.kind in let F = g.F.Finder in
     let u = use_of F.need (F.meaning c.args.finder.now) in
-    let m = c.in_ok-answer.ensures.marks in
-    let least = c.min-places.ensures in
-    let G = c.gather.new.marks in let D = drop (c.min-places.result - 0) c.args.marks.now in
+    let E = content_of c.args.edges.now in let S = content_of c.args.spare.now in
+    let opened = c.open-table.ensures.content in
+    let none : records_of c.open-table.result ≡ [] = ap (λ (t : Content LineMark). records t) opened in
+    let room : c.open-table.result.room ≡ mark_places s.lengths = let r = ap (λ (t : Content LineMark). t.room) opened in let m = lies.mark_length in omega arith in
+    let t = c.gather.new.marks in
     let a = c.in_ok-answer.answer in
-    let places : c.min-places.result - 0 ≡ min (length c.args.marks.now) 4096 = omega arith in
-    let long : length G ≡ min (length c.args.marks.now) 4096 = c.gather.auto.marks ∙ length-take-le (c.min-places.result - 0) c.args.marks.now (omega arith) ∙ places in
-    let room : c.min-room.result ≡ min (min (length c.args.edges.now) (length c.args.spare.now)) 4096 = c.min-room.ensures ∙ ap (λ (k : ℕ). min k 4096) c.min.ensures in
-    let most = c.in_ok-cut.ensures.within in
-    record {
-      round = λ s lies.
-          let found : Gathered F.walks u s G a = m s lies.sound (lies.listed ∙ sym c.front.ensures) (sym lies.exponent) (part_blank blank_mark c.args.marks.now (c.min-places.result - 0) s.lengths.marks lies.unmarked places lies.mark_length) in
-          let fits = found.fits in
-          let M = take (a.marks - 0) (G ++ D) in
-          let zero : a.marks - 0 ≡ a.marks = omega arith in
-          let own : M ≡ take a.marks G = take-append-le (a.marks - 0) G D (omega arith) ∙ ap (λ (k : ℕ). take k G) zero in
-          let ordered : Ordered mark_kind M = subst (Ordered mark_kind) (sym own) found.marked.ordered in
-          let ps = cut_from K 0 M c.front-2.result.now in
-          let same : ps ≡ cut_from K 0 (take a.marks G) s.edges = λ i. cut_from K 0 (own i) ((c.front-2.ensures ∙ sym lies.listed) i) in
-          let none = pieced_none K F.walks u s c.args.edges.now c.args.spare.now c.args.used c.args.marks.now c.args.radius.current lies G a found c.min-room.result c.requires long room in
-          let left = left_cut K F.walks u s c.args.edges.now c.args.spare.now c.args.used c.args.marks.now c.args.radius.current lies G a found c.min-room.result c.requires long room ps c.cut_edges.new.list c.move_list.new.edges c.move_list.new.spare c.in_ok-cut.cut same c.if-count-room.false (c.in_ok-cut.ensures.pieces ordered [] none) c.cut_edges.auto.list c.move_list.ensures in
-          (left.done, left.lies_again, came K F.walks u s c.args.edges.now c.args.spare.now c.args.used c.args.marks.now c.args.radius.current lies G a found);
-      within = omega arith;
-      marks = c.drop-guard-2.ensures ∙ ap (λ (k : ℕ). replicate k blank_mark) (length_front (G ++ D) c.cut_edges.new.marks (a.marks - 0) c.cut_edges.auto.marks ∙ length_front c.args.marks.now G (c.min-places.result - 0) c.gather.auto.marks);
-      capacity = c.in_ok-answer.ensures.capacity;
-    }
+    let known = c.in_ok-answer.ensures in
+    let found : Gathered F.walks u s (records_of t) a = known.marks s lies.sound (lies.listed ∙ sym c.records.ensures) (sym lies.exponent) none room in
+    let within : a.marks ≤ mark_places s.lengths = few_marks (content_of c.open-table.result) (content_of t) (mark_places s.lengths) a.marks t.sound known.size.room room known.number in
+    let M = c.into_records.result.now in
+    let own : M ≡ records_of t = c.into_records.ensures in
+    let ordered : Ordered mark_kind M = subst (Ordered mark_kind) (sym own) found.marked.ordered in
+    let ps = cut_from K 0 M c.records-2.result.now in
+    let same : ps ≡ cut_from K 0 (records_of t) s.edges = λ i. cut_from K 0 (own i) ((c.records-2.ensures ∙ sym lies.listed) i) in
+    let start = pieced_none K S lies.emptied in
+    let fits = leb-true (length (records E) + a.marks) c.args.edges.now.room (sym c.if-not-has_room_for.ensures) in
+    absurd (never_crowded K F.walks u s E S c.args.marks.now c.args.radius.current lies (records_of t) a found within fits ps same (c.in_err-cut_edges.ensures.pieces ordered [] start).1)
+
+pub returns-in_err-map_err-clause-round : goal.returns-in_err-map_err-clause-round
+returns-in_err-map_err-clause-round g c = λ s lies.
+    let K = g.C.WindingCount.kind in let F = g.F.Finder in
+    let u = use_of F.need (F.meaning c.args.finder.now) in
+    let E = content_of c.args.edges.now in let S = content_of c.args.spare.now in
+    let opened = c.open-table.ensures.content in
+    let none : records_of c.open-table.result ≡ [] = ap (λ (t : Content LineMark). records t) opened in
+    let room : c.open-table.result.room ≡ mark_places s.lengths = let r = ap (λ (t : Content LineMark). t.room) opened in let m = lies.mark_length in omega arith in
+    let t = c.gather.new.marks in
+    let a = c.in_ok-answer.answer in
+    let known = c.in_ok-answer.ensures in
+    let found : Gathered F.walks u s (records_of t) a = known.marks s lies.sound (lies.listed ∙ sym c.records.ensures) (sym lies.exponent) none room in
+    let within : a.marks ≤ mark_places s.lengths = few_marks (content_of c.open-table.result) (content_of t) (mark_places s.lengths) a.marks t.sound known.size.room room known.number in
+    let fits = leb-true (length (records E) + a.marks) c.args.edges.now.room (sym c.if-not-has_room_for.ensures) in
+    let joined = c.cut_edges.new.list in
+    absurd (never_refused K F.walks u s E S c.args.marks.now c.args.radius.current lies (records_of t) a found within fits (content_of joined) joined.sound c.in_ok-cut_edges.ensures.kept.room (broken _ _ c.take_over.result c.in_err-map_err.ensures.variant c.take_over.ensures).0)
+
+pub returns-then-answer-eq0-clause-round : goal.returns-then-answer-eq0-clause-round
+returns-then-answer-eq0-clause-round g c = λ s lies.
+    let K = g.C.WindingCount.kind in let F = g.F.Finder in
+    let u = use_of F.need (F.meaning c.args.finder.now) in
+    let E = content_of c.args.edges.now in let S = content_of c.args.spare.now in
+    let opened = c.open-table.ensures.content in
+    let none : records_of c.open-table.result ≡ [] = ap (λ (t : Content LineMark). records t) opened in
+    let room : c.open-table.result.room ≡ mark_places s.lengths = let r = ap (λ (t : Content LineMark). t.room) opened in let m = lies.mark_length in omega arith in
+    let t = c.gather.new.marks in
+    let a = c.in_ok-answer.answer in
+    let known = c.in_ok-answer.ensures in
+    let found : Gathered F.walks u s (records_of t) a = known.marks s lies.sound (lies.listed ∙ sym c.records.ensures) (sym lies.exponent) none room in
+    let within : a.marks ≤ mark_places s.lengths = few_marks (content_of c.open-table.result) (content_of t) (mark_places s.lengths) a.marks t.sound known.size.room room known.number in
+    let fits = leb-true (length (records E) + a.marks) c.args.edges.now.room (sym c.if-not-has_room_for.ensures) in
+    let left = left_whole K F.walks u s E S c.args.marks.now c.args.radius.current lies (records_of t) a found within fits c.if-answer-eq0.true in
+    (left.done, left.lies_again, left.came)
+
+pub returns-clause-round : goal.returns-clause-round
+returns-clause-round g c = λ s lies.
+    let K = g.C.WindingCount.kind in let F = g.F.Finder in
+    let u = use_of F.need (F.meaning c.args.finder.now) in
+    let E = content_of c.args.edges.now in let S = content_of c.args.spare.now in
+    let opened = c.open-table.ensures.content in
+    let none : records_of c.open-table.result ≡ [] = ap (λ (t : Content LineMark). records t) opened in
+    let room : c.open-table.result.room ≡ mark_places s.lengths = let r = ap (λ (t : Content LineMark). t.room) opened in let m = lies.mark_length in omega arith in
+    let t = c.gather.new.marks in
+    let a = c.in_ok-answer.answer in
+    let known = c.in_ok-answer.ensures in
+    let found : Gathered F.walks u s (records_of t) a = known.marks s lies.sound (lies.listed ∙ sym c.records.ensures) (sym lies.exponent) none room in
+    let within : a.marks ≤ mark_places s.lengths = few_marks (content_of c.open-table.result) (content_of t) (mark_places s.lengths) a.marks t.sound known.size.room room known.number in
+    let M = c.into_records.result.now in
+    let own : M ≡ records_of t = c.into_records.ensures in
+    let ordered : Ordered mark_kind M = subst (Ordered mark_kind) (sym own) found.marked.ordered in
+    let ps = cut_from K 0 M c.records-2.result.now in
+    let same : ps ≡ cut_from K 0 (records_of t) s.edges = λ i. cut_from K 0 (own i) ((c.records-2.ensures ∙ sym lies.listed) i) in
+    let start = pieced_none K S lies.emptied in
+    let fits = leb-true (length (records E) + a.marks) c.args.edges.now.room (sym c.if-not-has_room_for.ensures) in
+    let joined = c.in_ok-cut_edges.ensures.pieces ordered [] start in
+    let left = left_cut K F.walks u s E S c.args.marks.now c.args.radius.current lies (records_of t) a found within fits (content_of c.cut_edges.new.list) (content_of c.take_over.new.self) (content_of c.take_over.new.other) ps same joined.0 joined.1 joined.2 (taken _ _ c.take_over.result c.in_ok-map_err.ensures.variant c.take_over.ensures) in
+    (left.done, left.lies_again, left.came)

@@ -1,82 +1,89 @@
-use Rattle.std.proofs.Common.{◌≡◌, ℕ, List, length, take, replicate, sym, ap, ◌∙◌, subst}
-use denote.Ref.{MutBor}
-use lib.ListN.{length-replicate}
-use Rattle.std.proofs.lemmas.Result.{err_from_is_err_and, IfOk-from_err}
+-- What a round leaves and answers.
+use Rattle.std.proofs.Common.{◌≡◌, length, sym, ap, ◌∙◌, subst}
+use Rattle.std.proofs.lemmas.List.{length-replicate}
+use Rattle.std.proofs.lemmas.Result.{err_from_is_err_and}
+use Rattle.table.specs.Contents.{records}
+use Rattle.table.specs.Tables.{content_of}
 use Rattle.segm.specs.Marks.{blank_mark}
-use Rattle.segm.specs.declared.line_mark.LineMark.{LineMark}
-use Rattle.segm.specs.declared.segment.Segment.{Segment}
 use Rattle.history.specs.Rounds.{RoundDone}
-use Rattle.history.specs.Sheets.{Page, Sound, Tables}
-use Rattle.sheet.specs.Models.{page_of}
+use Rattle.history.specs.Sheets.{Page}
 use Rattle.marking.specs.Gathering.{use_of}
+use Rattle.sheet.specs.Models.{page_in, page_of}
 use Rattle.sheet.specs.Rounding.{page_after}
-use Rattle.sheet.proofs.Lying.{page, lies_taken, same_page, same_tables, blank_again}
+use Rattle.sheet.proofs.Fields.{fields_of, fields_kept, fields_after, held_of, page_lies}
 use Rattle.sheet.proofs.sheet.Sheet.round.Goals as goal
 
-pub returns-in_err-outcome : goal.returns-in_err-outcome
-returns-in_err-outcome g c =
-    let p = err_from_is_err_and c.from_residual.result c.from_residual.ensures.1 in
-    let K = g.C.WindingCount.kind in
-    let s = c.args.self.now in
-    let E = c.replace-edges.result.now in let S = c.replace-spare.result.now in let M = c.replace-marks.result.now in
-    let E' = c.round_tables-result.new.edges in let S' = c.round_tables-result.new.spare in let M' = c.round_tables-result.new.marks in
-    let isE : E ≡ s.edges.now = ap (λ (r : MutBor (List (Segment g.row.C.Denot))). r.now) c.replace-edges.ensures.value in
-    let isS : S ≡ s.spare.now = ap (λ (r : MutBor (List (Segment g.row.C.Denot))). r.now) c.replace-spare.ensures.value in
-    let isM : M ≡ s.marks.now = ap (λ (r : MutBor (List LineMark)). r.now) c.replace-marks.ensures.value in
-    let done = c.in_err-outcome.ensures in
-    record {
-      leaves = λ h.
-          let lies = lies_taken K s.used s.state s.radius.current s.start s.radius.step E S s.edges.now s.spare.now M s.marks.now isE isS isM h.sound h.tables in
-          let r = done.round (page_of s) lies in
-          let sameE : E' ≡ s.edges.now = r.1 ∙ isE in
-          let sameS : S' ≡ s.spare.now = r.2 ∙ isS in
-          let sameM : M' ≡ s.marks.now = blank_again M' M s.marks.now done.marks isM (ap (λ (t : Tables g.row.C.Denot). t.marks) h.tables) in
-          let same : page {C = g.row.C.Denot} K s.used s.state s.radius.current s.start s.radius.step E' S' M' ≡ page_of s = same_page K s.used s.state s.radius.current s.start s.radius.step E' S' s.edges.now s.spare.now M' s.marks.now sameE sameS sameM in (
-            record {
-              sound = subst (Sound K) (sym same) h.sound;
-              tables = same_tables K s.used s.state s.radius.current s.start s.radius.step E' S' s.edges.now s.spare.now M' s.marks.now sameE sameS sameM h.tables;
-            },
-            rw (p.1, p.2) (same, r.0),
-          );
-      pairs = λ h. IfOk-from_err c.from_residual.result _ c.from_residual.ensures.0;
-      capacity = done.capacity;
-    }
-
-pub returns : goal.returns
-returns g c =
+pub invariant_of-self : goal.invariant_of-self
+invariant_of-self g c =
     let K = g.C.WindingCount.kind in let F = g.F.Finder in
     let u = use_of F.need (F.meaning c.args.finder.now) in
     let s = c.args.self.now in
-    let E = c.replace-edges.result.now in let S = c.replace-spare.result.now in let M = c.replace-marks.result.now in
-    let E' = c.round_tables-result.new.edges in let S' = c.round_tables-result.new.spare in let M' = c.round_tables-result.new.marks in
-    let isE : E ≡ s.edges.now = ap (λ (r : MutBor (List (Segment g.row.C.Denot))). r.now) c.replace-edges.ensures.value in
-    let isS : S ≡ s.spare.now = ap (λ (r : MutBor (List (Segment g.row.C.Denot))). r.now) c.replace-spare.ensures.value in
-    let isM : M ≡ s.marks.now = ap (λ (r : MutBor (List LineMark)). r.now) c.replace-marks.ensures.value in
-    let done = c.in_ok-outcome.ensures in
-    let n = c.in_ok-outcome.outcome.used in let a = c.in_ok-outcome.outcome.answer in
-    let longM : length M' ≡ length M = ap length done.marks ∙ length-replicate (length M) blank_mark in
-    record {
-      leaves = λ h.
-          let lies = lies_taken K s.used s.state s.radius.current s.start s.radius.step E S s.edges.now s.spare.now M s.marks.now isE isS isM h.sound h.tables in
-          let r = done.round (page_of s) lies in
-          let again = r.1 in
-          let after : Page g.row.C.Denot = record { edges = take n E'; state = c.state_after-self.result; exponent = c.radius_after-self.result.current; start = s.start; step = c.radius_after-self.result.step; lengths = record { edges = length E'; spare = length S'; marks = length M' } } in
-          let is : after ≡ page_after (page_of s) (take n E') a = λ i. record {
-            edges = take n E';
-            state = c.state_after-self.ensures i;
-            exponent = c.radius_after-self.ensures.current i;
-            start = s.start;
-            step = c.radius_after-self.ensures.step i;
-            lengths = record { edges = again.edge_length i; spare = again.spare_length i; marks = (longM ∙ ap length isM) i };
-          } in (
-            record {
-              sound = subst (Sound K) (sym is) again.sound;
-              tables = λ i. record { edges = again.behind i; spare = again.spared i; marks = (done.marks ∙ ap (λ (k : ℕ). replicate k blank_mark) (sym longM)) i };
-            },
-            subst (λ (x : Page g.row.C.Denot). RoundDone K u (page_of s) x a) (sym is) r.0,
-          );
-      pairs = λ h.
-          let lies = lies_taken K s.used s.state s.radius.current s.start s.radius.step E S s.edges.now s.spare.now M s.marks.now isE isS isM h.sound h.tables in
-          (done.round (page_of s) lies).2;
-      capacity = done.capacity;
-    }
+    let E = content_of s.edges in let S = content_of s.spare in let M = s.marks.now in
+    let E' = content_of c.round_tables.new.edges in let S' = content_of c.round_tables.new.spare in
+    let fields = fields_of K s s.edges.sound s.spare.sound in
+    let lies = page_lies K E S M s.state s.radius.current s.start s.radius.step fields in
+    let r = c.in_err-answer.ensures.round (page_of s) lies in
+    let f = fields_kept K E S E' S' M c.round_tables.new.marks fields c.round_tables.new.edges.sound c.round_tables.new.spare.sound r.1 r.2 c.in_err-answer.ensures.marks in
+    record { proper = f.proper; emptied = f.emptied; edge_room = f.edge_room; spare_room = f.spare_room; unmarked = f.unmarked }
+
+pub returns-in_err-answer-clause-leaves : goal.returns-in_err-answer-clause-leaves
+returns-in_err-answer-clause-leaves g c =
+    let p = err_from_is_err_and c.from_residual.result c.from_residual.ensures.1 in
+    let K = g.C.WindingCount.kind in let F = g.F.Finder in
+    let u = use_of F.need (F.meaning c.args.finder.now) in
+    let s = c.args.self.now in
+    let E = content_of s.edges in let S = content_of s.spare in let M = s.marks.now in
+    let E' = content_of c.round_tables.new.edges in let S' = content_of c.round_tables.new.spare in
+    let fields = fields_of K s s.edges.sound s.spare.sound in
+    let lies = page_lies K E S M s.state s.radius.current s.start s.radius.step fields in
+    let r = c.in_err-answer.ensures.round (page_of s) lies in
+    let blank : c.round_tables.new.marks ≡ M = c.in_err-answer.ensures.marks ∙ sym fields.unmarked in
+    let same : page_in E' S' c.round_tables.new.marks s.state s.radius.current s.start s.radius.step ≡ page_of s = λ i. page_in (r.1 i) (r.2 i) (blank i) s.state s.radius.current s.start s.radius.step in
+    (held_of K _ c.round_tables.new.edges.sound c.round_tables.new.spare.sound, rw (p.1, p.2) (same, r.0))
+
+pub invariant_of-self-2 : goal.invariant_of-self-2
+invariant_of-self-2 g c =
+    let K = g.C.WindingCount.kind in let F = g.F.Finder in
+    let u = use_of F.need (F.meaning c.args.finder.now) in
+    let s = c.args.self.now in
+    let E = content_of s.edges in let S = content_of s.spare in let M = s.marks.now in
+    let E' = content_of c.round_tables.new.edges in let S' = content_of c.round_tables.new.spare in
+    let fields = fields_of K s s.edges.sound s.spare.sound in
+    let lies = page_lies K E S M s.state s.radius.current s.start s.radius.step fields in
+    let a = c.in_ok-answer.answer in
+    let r = c.in_ok-answer.ensures.round (page_of s) lies in
+    let f = fields_after K (page_after (page_of s) (records E') a) E' S' M c.round_tables.new.marks _ r.1 c.round_tables.new.edges.sound c.round_tables.new.spare.sound c.in_ok-answer.ensures.marks in
+    record { proper = f.proper; emptied = f.emptied; edge_room = f.edge_room; spare_room = f.spare_room; unmarked = f.unmarked }
+
+pub returns-clause-leaves : goal.returns-clause-leaves
+returns-clause-leaves g c =
+    let K = g.C.WindingCount.kind in let F = g.F.Finder in
+    let u = use_of F.need (F.meaning c.args.finder.now) in
+    let s = c.args.self.now in
+    let E = content_of s.edges in let S = content_of s.spare in let M = s.marks.now in
+    let E' = content_of c.round_tables.new.edges in let S' = content_of c.round_tables.new.spare in
+    let fields = fields_of K s s.edges.sound s.spare.sound in
+    let lies = page_lies K E S M s.state s.radius.current s.start s.radius.step fields in
+    let a = c.in_ok-answer.answer in
+    let r = c.in_ok-answer.ensures.round (page_of s) lies in
+    let long : length c.round_tables.new.marks ≡ length M = ap length c.in_ok-answer.ensures.marks ∙ length-replicate (length M) blank_mark in
+    let is : page_in E' S' c.round_tables.new.marks c.state_after-self.result c.radius_after-self.result.current s.start c.radius_after-self.result.step ≡ page_after (page_of s) (records E') a = λ i. record {
+      edges = records E';
+      state = c.state_after-self.ensures i;
+      exponent = c.radius_after-self.ensures.current i;
+      start = s.start;
+      step = c.radius_after-self.ensures.step i;
+      lengths = record { edges = r.1.edge_length i; spare = r.1.spare_length i; marks = long i };
+    } in
+    (held_of K _ c.round_tables.new.edges.sound c.round_tables.new.spare.sound, subst (λ (t : Page g.row.C.Denot). RoundDone K u (page_of s) t a) (sym is) r.0)
+
+pub returns-clause-pairs : goal.returns-clause-pairs
+returns-clause-pairs g c =
+    let K = g.C.WindingCount.kind in let F = g.F.Finder in
+    let u = use_of F.need (F.meaning c.args.finder.now) in
+    let s = c.args.self.now in
+    let E = content_of s.edges in let S = content_of s.spare in let M = s.marks.now in
+    let E' = content_of c.round_tables.new.edges in let S' = content_of c.round_tables.new.spare in
+    let fields = fields_of K s s.edges.sound s.spare.sound in
+    let lies = page_lies K E S M s.state s.radius.current s.start s.radius.step fields in
+    (c.in_ok-answer.ensures.round (page_of s) lies).2

@@ -1,84 +1,79 @@
-use Rattle.std.proofs.Common.{◌≡◌, ◌||◌, ltb, sym, refl, ap, ◌∙◌, subst, inl, inr, arith}
-use Rattle.history.specs.Rounds.{Use, RoundDone, RoundRefused, RunBroke, broke}
+-- What a run leaves and answers.
+use Rattle.std.proofs.Common.{rules, ◌≢◌, ℕ, ◌||◌, ltb, sym, refl, ◌∙◌, subst, inl, inr, arith}
+use Rattle.std.proofs.lemmas.Result.{err_from_is_err_and, MatchResult-weaker}
+use Rattle.history.specs.Rounds.{Use, Rounds, RoundDone, RoundRefused, RunBroke, broke, outside}
+use Rattle.history.specs.declared.sheet_state.SheetState.TheVariants.{Clean}
 use Rattle.history.specs.Sheets.{Page}
-use Rattle.history.specs.declared.answers.RunFault.{RunFault}
-use Rattle.sheet.specs.Models.{page_of}
 use Rattle.marking.specs.Gathering.{use_of}
-use Rattle.sheet.proofs.Running.{unclean, clean, same_use, rounds_none, rounds_more}
+use Rattle.sheet.specs.Models.{page_of}
+use Rattle.sheet.proofs.Fields.{held_of}
+use Rattle.sheet.proofs.Running.{same_use, rounds_none, rounds_more, broke_at, done_at}
 use Rattle.sheet.proofs.sheet.Sheet.run.Goals as goal
-use Rattle.sheet.proofs.sheet.Sheet.run.Goals.{then-has_marks, else-has_marks, then-loop-rounds-test+else-not-is_clean, else-loop-rounds-test}
+use Rattle.sheet.proofs.sheet.Sheet.run.Goals.{then-loop-rounds-test+else-ne, else-loop-rounds-test}
 
 pub loop-rounds-init : goal.loop-rounds-init
 loop-rounds-init g c =
     let K = g.C.WindingCount.kind in let F = g.F.Finder in
-    ((λ h. (h, rounds_none K (use_of F.need (F.meaning c.args.finder.now)) (page_of c.args.self.now))), refl, omega arith)
-
-pub returns-in-Err : goal.returns-in-Err
-returns-in-Err g c =
-    let K = g.C.WindingCount.kind in let F = g.F.Finder in
-    let v = c.loop-rounds.invariant in
-    let u = use_of F.need (F.meaning c.args.finder.now) in
-    let same = same_use F.need (F.meaning c.args.finder.now) (F.meaning c.loop-rounds.finder) v.1 in
-    let fault : RunFault = record { fault = c.in-Err.fault; rounds = c.loop-rounds.rounds } in
-    let not0 = c.if-budget-eq0.false in
-    record {
-      leaves = λ h.
-          let w = v.0 h in
-          let r = c.in-Err.ensures.leaves w.0 in (
-            r.0,
-            broke (record { least = omega arith; most = c.if-budget-gt-LARGEST_BUDGET.false })
-                (subst (λ (x : Page g.row.C.Denot). RunBroke K u c.args.budget (page_of c.args.self.now) x fault) (sym r.1.0) (record {
-                  marked = c.loop-rounds.has_marks;
-                  rounds = w.1;
-                  spent = c.loop-rounds-test.true;
-                  unclean = unclean c.loop-rounds.self.state (sym c.if-not-is_clean.ensures);
-                  refused = subst (λ (x : Use). RoundRefused x (page_of c.loop-rounds.self) c.in-Err.fault) same r.1.1;
-                })),
-          );
-      capacity = c.in-Err.ensures.capacity ∙ v.1;
-    }
-
-pub overflow_add-rounds : goal.overflow_add-rounds
-overflow_add-rounds g c = let spent = c.loop-rounds-test.true in let most = c.if-budget-gt-LARGEST_BUDGET.false in record { fits = omega arith }
+    (rounds_none K (use_of F.need (F.meaning c.args.finder.now)) (page_of c.args.self.now), refl, omega arith)
 
 pub loop-rounds-preserved : goal.loop-rounds-preserved
 loop-rounds-preserved g c =
     let K = g.C.WindingCount.kind in let F = g.F.Finder in
     let v = c.loop-rounds.invariant in
+    let s = c.loop-rounds.self in
     let u = use_of F.need (F.meaning c.args.finder.now) in
     let same = same_use F.need (F.meaning c.args.finder.now) (F.meaning c.loop-rounds.finder) v.1 in
-    let told : c.if-has_marks.has_marks ≡ (c.loop-rounds.has_marks || ltb 0 c.in-Ok.answer.marks) = elim c.if-has_marks.branch [ then-has_marks w ↦ w.has_marks-is ∙ w.if-has_marks.true ∙ sym (ap (λ b. b || ltb 0 c.in-Ok.answer.marks) w.if-has_marks.true) | else-has_marks w ↦ w.has_marks-is ∙ sym (ap (λ b. b || ltb 0 c.in-Ok.answer.marks) w.if-has_marks.false) ] in
-    let spent = c.loop-rounds-test.true in (
-      (λ h.
-          let w = v.0 h in
-          let r = c.in-Ok.ensures.leaves w.0 in (
-            r.0,
-            rounds_more K u c.loop-rounds.rounds c.loop-rounds.has_marks c.if-has_marks.has_marks (page_of c.args.self.now) (page_of c.loop-rounds.self) (page_of c.round.new.self) c.in-Ok.answer
-                w.1 (unclean c.loop-rounds.self.state (sym c.if-not-is_clean.ensures))
-                (subst (λ (x : Use). RoundDone K x (page_of c.loop-rounds.self) (page_of c.round.new.self) c.in-Ok.answer) same r.1) told,
-          )),
-      c.in-Ok.ensures.capacity ∙ v.1,
+    let own = use_of F.need (F.meaning c.loop-rounds.finder) in
+    let unclean : s.state ≢ Clean = search rules in
+    let a = c.in_ok-answer.answer in
+    let done = done_at K own (page_of s) (page_of c.round.new.self) c.round.result a _ c.round.ensures.leaves.1 c.in_ok-answer.ensures.variant c.in_ok-answer.ensures.cases in (
+      rounds_more K u c.loop-rounds.rounds c.loop-rounds.has_marks (c.loop-rounds.has_marks || ltb 0 a.marks) (page_of c.args.self.now) (page_of s) (page_of c.round.new.self) a
+          v.0 unclean (subst (λ (x : Use). RoundDone K x (page_of s) (page_of c.round.new.self) a) same done) refl,
+      c.round.ensures.capacity ∙ v.1,
       omega arith,
     )
 
-pub returns : goal.returns
-returns g c =
+pub returns-then-budget-eq0-clause-leaves : goal.returns-then-budget-eq0-clause-leaves
+returns-then-budget-eq0-clause-leaves g c =
+    let s = c.args.self.now in
+    (held_of g.C.WindingCount.kind s s.edges.sound s.spare.sound, search (rules, outside))
+
+pub returns-in_err-answer-clause-leaves : goal.returns-in_err-answer-clause-leaves
+returns-in_err-answer-clause-leaves g c =
+    let p = err_from_is_err_and c.from_residual.result c.from_residual.ensures.1 in
+    let K = g.C.WindingCount.kind in let F = g.F.Finder in
     let v = c.loop-rounds.invariant in
-    let not0 = c.if-budget-eq0.false in
-    let spent = v.2 in
-    record {
-      leaves = λ h.
-          let w = v.0 h in (
-            w.0,
-            (
-              record { least = omega arith; most = c.if-budget-gt-LARGEST_BUDGET.false },
-              record {
-                rounds = w.1;
-                spent = v.2;
-                ends = elim c.loop-rounds-test.branch [ then-loop-rounds-test+else-not-is_clean w ↦ ∣ inl (clean c.loop-rounds.self.state (sym w.if-not-is_clean.ensures)) ∣₁ | else-loop-rounds-test w ↦ ∣ inr (let past = w.loop-rounds-test.false in omega arith) ∣₁ ];
-                state = refl;
-              },
-            ),
-          );
-      capacity = v.1;
-    }
+    let s = c.loop-rounds.self in
+    let u = use_of F.need (F.meaning c.args.finder.now) in
+    let same = same_use F.need (F.meaning c.args.finder.now) (F.meaning c.loop-rounds.finder) v.1 in
+    let own = use_of F.need (F.meaning c.loop-rounds.finder) in
+    let unclean : s.state ≢ Clean = search rules in
+    let f = c.in_err-answer.field-0.0 in
+    let n = c.loop-rounds.rounds in
+    let broken = broke_at K own (page_of s) (page_of c.round.new.self) n c.round.result f c.round.ensures.leaves.1 (MatchResult-weaker c.round.result c.in_err-answer.ensures.cases (λ x w. w) (λ e w. search rules)) in
+    let spent = c.loop-rounds-test.true in
+    let stopped : RunBroke K u c.args.budget (page_of c.args.self.now) (page_of c.round.new.self) f =
+    subst (λ (x : Page g.row.C.Denot). RunBroke K u c.args.budget (page_of c.args.self.now) x f) (sym broken.0) (record {
+      marked = c.loop-rounds.has_marks;
+      rounds = subst (λ (k : ℕ). Rounds K u k c.loop-rounds.has_marks (page_of c.args.self.now) (page_of s)) (sym broken.2) v.0;
+      spent = let z = broken.2 in omega arith;
+      unclean = unclean;
+      refused = subst (λ (x : Use). RoundRefused x (page_of s) f.fault) same broken.1;
+    }) in
+    (c.round.ensures.leaves.0, rw (p.1, p.2) (broke (record { least = omega arith; most = omega arith }) stopped))
+
+pub returns-clause-leaves : goal.returns-clause-leaves
+returns-clause-leaves g c =
+    let v = c.loop-rounds.invariant in
+    let s = c.loop-rounds.self in (
+      held_of g.C.WindingCount.kind s s.edges.sound s.spare.sound,
+      (
+        record { least = omega arith; most = omega arith },
+        record {
+          rounds = v.0;
+          spent = v.2;
+          ends = elim c.loop-rounds-test.branch [ then-loop-rounds-test+else-ne w ↦ ∣ inl (search rules) ∣₁ | else-loop-rounds-test w ↦ ∣ inr (let past = w.loop-rounds-test.false in omega arith) ∣₁ ];
+          state = refl;
+        },
+      ),
+    )

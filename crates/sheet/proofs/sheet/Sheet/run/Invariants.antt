@@ -1,6 +1,6 @@
 use Rattle.std.proofs.Common.{◌≡◌, ◌-◌, ◌≤◌}
 use Rattle.history.specs.Rounds.{Rounds}
-use Rattle.sheet.specs.Models.{Held, page_of}
+use Rattle.sheet.specs.Models.{page_of}
 use Rattle.marking.specs.Gathering.{use_of}
 use Rattle.sheet.proofs.sheet.Sheet.run.Given as goal
 
@@ -8,7 +8,7 @@ use Rattle.sheet.proofs.sheet.Sheet.run.Given as goal
 abbrev pub invariant-loop-rounds : goal.invariant-loop-rounds
 invariant-loop-rounds g l =
     let K = g.C.WindingCount.kind in let F = g.F.Finder in
-    (Held K l.initial.self → Held K l.self × Rounds K (use_of F.need (F.meaning l.initial.finder)) l.rounds l.has_marks (page_of l.initial.self) (page_of l.self))
+    Rounds K (use_of F.need (F.meaning l.initial.finder)) l.rounds l.has_marks (page_of l.initial.self) (page_of l.self)
     × ((F.meaning l.finder).capacity ≡ (F.meaning l.initial.finder).capacity) × (l.rounds ≤ l.budget)
 
 abbrev pub decreases-loop-rounds : goal.decreases-loop-rounds
