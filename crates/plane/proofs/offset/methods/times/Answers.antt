@@ -2,12 +2,6 @@ use Rattle.std.proofs.lemmas.Int.{to_z-of_z}
 use Rattle.plane.proofs.Fits.{times64, sized}
 use Rattle.plane.proofs.offset.methods.times.Goals as goal
 
-pub overflow_mul-result : goal.overflow_mul-result
-overflow_mul-result c =
-    let fa = c.ranges.a in
-    let fb = c.ranges.b in
-    simp to_z-of_z (times64 c.args.a c.args.b c.requires.a_bound c.requires.b_bound)
-
 pub returns : goal.returns
 returns c =
     let fa = c.ranges.a in
