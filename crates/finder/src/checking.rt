@@ -1,6 +1,5 @@
 //! What all finders share: the number announced, and the checks of an edge shown.
 ghost use Rattle.std.specs.Prelude.{◌≡◌, ◌≤◌};
-ghost use Rattle.plane.specs.Points.{before?};
 ghost use Rattle.plane.specs.Models.{plain_point, MadePoint};
 ghost use Rattle.finder.specs.Finders.{box_of, counted};
 ghost use Rattle.finder.specs.Checks.{Checked};
@@ -23,18 +22,11 @@ pub fn announced_edges(number: usize) -> usize
     if number <= MOST_EDGES { number } else { 0 }
 }
 
-/// Whether one point comes before another: by x, then by y.
-pub(crate) fn is_before(p: PlainPoint, q: PlainPoint) -> bool
-    ensures { result ≡ before? (plain_point p) (plain_point q) }
-{
-    p.x < q.x || (p.x <= q.x && p.y < q.y)
-}
-
 /// The same point, refused where a coordinate is outside.
 pub fn in_range(p: PlainPoint) -> Result<IntPoint, Fault>
     ensures { MadePoint (plain_point p) result }
 {
-    IntPoint::new(p.x, p.y)
+    IntPoint::try_from(p)
 }
 
 /// The edge from `a` to `b`, or its refusal by the first check that it fails.

@@ -10,8 +10,6 @@ use crate::edge_record::EdgeRecord;
 use crate::finding::Finder;
 use crate::int_rect::IntRect;
 use plane::fault::Fault;
-use plane::int_point::IntPoint;
-use plane::plain_point::PlainPoint;
 
 /// The least box around the edges, zeros where there are none.
 pub fn extent_of<E: EdgeRecord>(edges: &[E]) -> IntRect
@@ -57,12 +55,5 @@ fn show_edge<E: EdgeRecord, F: Finder>(edge: E, finder: &mut F) -> Result<(), Fa
     ensures answers { result ≡ show_answer (refusal F.Finder.need (F.Finder.meaning finder.old) (E.EdgeRecord.edge edge)) }
     ensures leaves { F.Finder.meaning finder.new ≡ show_after (refusal F.Finder.need (F.Finder.meaning finder.old) (E.EdgeRecord.edge edge)) (E.EdgeRecord.edge edge) (F.Finder.meaning finder.old) }
 {
-    finder.show(plain(edge.first_end()), plain(edge.second_end()))
-}
-
-/// The point as it is handed in.
-fn plain(p: IntPoint) -> PlainPoint
-    ensures { plain_point result ≡ point_of p }
-{
-    PlainPoint { x: p.x, y: p.y }
+    finder.show(edge.first_end().into(), edge.second_end().into())
 }

@@ -4,9 +4,10 @@ ghost use Rattle.plane.specs.Models.{plain_point};
 ghost use Rattle.finder.specs.Finders.{box_of, counted};
 ghost use Rattle.finder.specs.Checks.{Checked};
 
-use crate::checking::{announced_edges, in_range, is_before};
+use crate::checking::announced_edges;
 use crate::int_rect::IntRect;
 use plane::fault::Fault;
+use plane::int_point::IntPoint;
 use plane::plain_point::PlainPoint;
 use plane::x_segment::XSegment;
 
@@ -43,14 +44,12 @@ impl Intake {
         if self.announced <= self.shown {
             return Err(Fault::AnnouncedReached);
         }
-        if !is_before(a, b) {
+        if a >= b {
             return Err(Fault::EndsEqual);
         }
-        let first = in_range(a)?;
-        let second = in_range(b)?;
         let edge = XSegment {
-            a: first,
-            b: second,
+            a: IntPoint::try_from(a)?,
+            b: IntPoint::try_from(b)?,
         };
         if !self.extent.contains_edge(edge) {
             return Err(Fault::EdgeOutsideBox);

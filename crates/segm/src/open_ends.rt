@@ -13,6 +13,7 @@ use table::ordered_table::{NoRoom, OrderedTable};
 use table::places::blank_all;
 
 // Where a segment ends, with its count.
+// Stays: `first_end` takes the other end and the inverse count, and one function of both would be told both.
 fn second_end<C: WindingCount>(s: Segment<C>) -> Corner<C>
     ensures { result ≡ ends_at s }
 {

@@ -5,10 +5,8 @@ ghost use Rattle.segm.specs.Balance.{brings};
 ghost use Rattle.segm.specs.Segments.{turned_of, directed};
 ghost use Rattle.std.specs.Prelude.{◌≡◌};
 
-use crate::order::compare_points;
 use crate::winding::WindingCount;
 use plane::int_point::IntPoint;
-use std::cmp::Ordering;
 
 #[derive(Clone, Copy)]
 pub struct Segment<C: WindingCount> {
@@ -37,9 +35,6 @@ impl<C: WindingCount> Segment<C> {
         ensures balance { (p : Point) → brings C.WindingCount.kind p result ≡ brings C.WindingCount.kind p (record { a = a; b = b; count = count }) }
     {
         let segment = Segment { a, b, count };
-        match compare_points(a, b) {
-            Ordering::Greater => segment.turned(),
-            _ => segment,
-        }
+        if b < a { segment.turned() } else { segment }
     }
 }

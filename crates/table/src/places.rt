@@ -1,5 +1,5 @@
 //! How records move within the places of a table.
-ghost use Rattle.std.specs.Prelude.{◌≡◌, ℕ, ◌+◌, ◌-◌, ◌<◌, ◌≤◌, ◌∷◌, length, take, drop, replicate, MatchOption, MatchResult};
+ghost use Rattle.std.specs.Prelude.{◌≡◌, ℕ, ◌+◌, ◌-◌, ◌<◌, ◌≤◌, ◌∷◌, length, take, drop, replicate, MatchResult};
 ghost use Rattle.std.specs.List.{insert, remove};
 ghost use Rattle.table.specs.Contents.{Came, Refused, Replaced, content};
 ghost use Rattle.table.specs.Search.{Searched};
@@ -78,17 +78,6 @@ pub(crate) fn bring<R: Keyed>(
             }
         }
     }
-}
-
-/// Brings r to its place among the first `used` records. The number of records then, or none where a new key finds no room.
-pub fn insert<R: Keyed>(table: &mut [R], used: usize, room: usize, r: R) -> Option<usize>
-    ensures { MatchOption result (Refused R.Keyed.kind r (content table.old used room) (content table.new used room)) (λ m. Came R.Keyed.kind r (content table.old used room) (content table.new m room)) }
-{
-    // A sound table never stops here.
-    if used > room || room > table.len() {
-        return None;
-    }
-    bring(table, used, room, r).ok()
 }
 
 // Other records in place of the first `used` ones; the places that these leave are blank.

@@ -12,11 +12,11 @@ ghost use Rattle.sheet.specs.Worked.{WorkedSheets};
 
 use crate::rounding::round_tables;
 use crate::sheet::Sheet;
-use finder::checking::in_range;
 use finder::finding::Finder;
 use history::answers::{RoundAnswer, RunAnswer, RunFault};
 use history::sheet_state::SheetState;
 use plane::fault::Fault;
+use plane::int_point::IntPoint;
 use plane::plain_point::PlainPoint;
 use plane::snap_radius::SnapRadius;
 use segm::line_mark::LineMark;
@@ -134,11 +134,11 @@ fn directed_segment<C: WindingCount>(
 ) -> Result<Segment<C>, Fault>
     ensures { Directed C.WindingCount.kind (plain_point a) (plain_point b) count result }
 {
-    if a.x == b.x && a.y == b.y {
+    if a == b {
         return Err(Fault::EndsEqual);
     }
-    let first = in_range(a)?;
-    let second = in_range(b)?;
+    let first = IntPoint::try_from(a)?;
+    let second = IntPoint::try_from(b)?;
     if !count.is_not_empty() {
         return Err(Fault::CountEmpty);
     }
