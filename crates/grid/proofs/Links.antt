@@ -4,7 +4,7 @@ use Rattle.std.proofs.lemmas.List.{length-map, length-set, get_or-map, get_or-se
 use Rattle.std.proofs.lemmas.Bool.{cond-true, cond-false, eq-eqb, ne_eqb, cases_eq}
 use Rattle.grid.specs.Layouts.{most_columns}
 use Rattle.grid.specs.declared.fragment.Fragment.{Fragment}
-use Rattle.grid.specs.Tables.{Content, content, contents, blank_content, listed, Narrow, Names, from, place, most_fragments, Leads, Linked}
+use Rattle.grid.specs.Tables.{Content, content, contents, blank_content, listed, Narrow, Names, from, place, Leads}
 
 -- ---- the parts of a column, from a place on
 pub listed_here : (ms : List Content) (c k : ℕ) → k < length ms → (get_or ms k blank_content).column ≡ c → listed c (drop k ms) ≡ (get_or ms k blank_content).part ∷ listed c (drop (suc k) ms)
@@ -144,6 +144,3 @@ linking_narrow {entry} {qs} {heads} {k} j d w n h =
     let i : j < length qs = omega (arith, w.within) in
     subst (λ (m : Content). m.column < most_columns) (ap (λ (ms : List Content). get_or ms j blank_content) (sym w.same) ∙ content_at qs j d i)
     (n j (omega (arith, i, length-map qs content, ap length w.same)))
-
-pub linking_all : (entry qs : List Fragment) (heads : List (Option ℕ)) → Linking entry qs heads 0 → length qs ≤ most_fragments → Linked qs heads
-linking_all entry qs heads w h = record { short = h; starts = w.starts; goes_on = λ k d l. w.goes_on k d (omega arith) l }

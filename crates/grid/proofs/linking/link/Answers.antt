@@ -1,7 +1,7 @@
-use Rattle.std.proofs.Common.{ℕ, ◌-◌, ◌<◌, length, ap, subst, arith}
+use Rattle.std.proofs.Common.{◌-◌, ◌<◌, length, ap, arith}
 use Rattle.std.proofs.lemmas.List.{get_or_default}
 use Rattle.grid.specs.Tables.{content}
-use Rattle.grid.proofs.Links.{Linking, linking_none, linking_more, linking_narrow, linking_all}
+use Rattle.grid.proofs.Links.{linking_none, linking_more, linking_narrow}
 use Rattle.grid.proofs.linking.link.Goals as goal
 
 pub loop-k-init : goal.loop-k-init
@@ -20,8 +20,3 @@ loop-k-preserved c =
     (linking_more c.args.fragments.now c.loop-k.fragments c.loop-k.heads c.loop-k.k (c.loop-k.k - 1) c.index-fragments-k.result _ c.loop-k.invariant (omega (arith, c.loop-k-test.true))
     (ap content (get_or_default c.loop-k.fragments (c.loop-k.k - 1) _ _ h)) c.replace.ensures.value
     (linking_narrow (c.loop-k.k - 1) c.index-fragments-k.result c.loop-k.invariant c.requires.narrow (omega (arith, c.loop-k-test.true))))
-
-pub returns-clause-linked : goal.returns-clause-linked
-returns-clause-linked c =
-    linking_all c.args.fragments.now c.loop-k.fragments c.loop-k.heads (subst (λ (k : ℕ). Linking c.args.fragments.now c.loop-k.fragments c.loop-k.heads k) (omega (arith, c.loop-k-test.false)) c.loop-k.invariant)
-    (omega (arith, c.loop-k.auto.fragments, c.requires.short))

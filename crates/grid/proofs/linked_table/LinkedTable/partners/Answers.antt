@@ -22,9 +22,6 @@ tested l qs c i q z b h f is t =
     ∙ ap (λ (x : ℤ). stands_at? x (edge_of (get_or qs i q).x_segment)) (ap (border l) (sym (add-one c)) ∙ sym is ∙ sym (to_z-of_z w64 z (record { sfits = f })))
     ∙ sym t
 
-pub bounds-self-first : goal.bounds-self-first
-bounds-self-first c = omega (arith, c.requires.named.0, length-map c.args.self.now.table.now content)
-
 pub returns-in-Columns : goal.returns-in-Columns
 returns-in-Columns c =
     let qs = c.args.self.now.table.now in
