@@ -19,9 +19,10 @@ fn main(rt: HostRuntime) -> anyhow::Result<()> {
 fn run(rt: &HostRuntime) -> anyhow::Result<()> {
     let mut words = env::args(rt)?;
     let _ = words.next();
-    let Some(job) = words.next() else {
-        return Err(anyhow!("the first word names the job: marks, walk or run"));
-    };
+    let job = words.next().ok_or_else(|| anyhow!(
+        "the first word names the job: marks, walk or run"
+    ))?;
+    // Stays: the words of the command line name the jobs.
     match job.as_str() {
         "marks" => marks_job(rt, words),
         "walk" => walk_job(rt, words),

@@ -49,6 +49,7 @@ pub(crate) fn run_job(rt: &HostRuntime, mut words: Args) -> anyhow::Result<()> {
         step: step.as_str().parse::<u32>()?,
     };
     let drawn = read_input(rt)?;
+    // Stays: each finder is of a type of its own, over a table of its own.
     match kind {
         FinderKind::Grid => {
             let mut places = vec![in rt.alloc(); Fragment::blank(); FRAGMENTS]?;

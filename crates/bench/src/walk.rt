@@ -25,9 +25,9 @@ pub(crate) fn walk_job(rt: &HostRuntime, mut words: Args) -> anyhow::Result<()> 
     let (Some(letter), Some(repeats)) = (words.next(), words.next()) else {
         return Err(anyhow!("walk takes G or P, and a number"));
     };
-    let Some(kind) = FinderKind::of(letter.as_str().parse::<char>()?) else {
-        return Err(anyhow!("walk takes G or P"));
-    };
+    let kind = FinderKind::of(letter.as_str().parse::<char>()?).ok_or_else(|| anyhow!(
+        "walk takes G or P"
+    ))?;
     let repeats = repeats.as_str().parse::<u32>()?;
     if repeats == 0 {
         return Err(anyhow!("at least one walk"));
@@ -37,6 +37,7 @@ pub(crate) fn walk_job(rt: &HostRuntime, mut words: Args) -> anyhow::Result<()> 
     if edges.len() > MOST_EDGES {
         return Err(anyhow!("at most 4096 edges"));
     }
+    // Stays: each finder is of a type of its own, over a table of its own.
     match kind {
         FinderKind::Grid => {
             let mut places = vec![in rt.alloc(); Fragment::blank(); COLUMNS * edges.len()]?;
@@ -56,10 +57,10 @@ fn read_edges(rt: &HostRuntime) -> anyhow::Result<Vec<XSegment>> {
     let drawn = read_input(rt)?;
     let mut edges = Vec::new(rt.alloc());
     for line in drawn.iter() {
-        match XSegment::new(line.a, line.b) {
-            Ok(edge) => edges.push(edge)?,
-            Err(_) => return Err(anyhow!("the ends of a line are equal")),
-        }
+        let edge = XSegment::new(line.a, line.b).map_err(|_| anyhow!(
+            "the ends of a line are equal"
+        ))?;
+        edges.push(edge)?;
     }
     Ok(edges)
 }
@@ -98,9 +99,7 @@ struct Found {
 
 /// Shows the edges to the finder, and counts the pairs that it gives and those that touch, each once, however often it comes.
 fn walk<F: Finder>(edges: &[XSegment], finder: &mut F, seen: &mut [bool]) -> anyhow::Result<Found> {
-    let Ok(()) = fill(edges, extent_of(edges), finder) else {
-        return Err(anyhow!("the finder refuses an edge"));
-    };
+    fill(edges, extent_of(edges), finder).map_err(|_| anyhow!("the finder refuses an edge"))?;
     let mut touches: usize = 0;
     let pairs = take_all(finder, |i, j| {
         if touch_anew(edges, i, j, seen) {

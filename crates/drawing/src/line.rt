@@ -79,6 +79,7 @@ fn both<A: Copy, B: Copy>(
     }
 }
 
+// Stays: no `From`, since which form is wrong depends on the line.
 fn reason(fault: NumberFault, form: Reason) -> Reason
     ensures { result ≡ reason_of fault form }
 {

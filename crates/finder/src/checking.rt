@@ -30,6 +30,7 @@ pub fn in_range(p: PlainPoint) -> Result<IntPoint, Fault>
 }
 
 /// The edge from `a` to `b`, or its refusal by the first check that it fails.
+// Stays: a call that was promised, over the one that both finders make.
 pub fn checked(
     walking: bool,
     announced: usize,

@@ -99,10 +99,7 @@ impl LinkedTable<'_> {
         requires named { Names (contents self.now.table.now) (first_of stage column) first }
         ensures { Begun (layout_of self.now.layout) stage (contents self.now.table.now) column first result }
     {
-        let second = match first {
-            Some(first) => self.partners(stage, column, first),
-            None => None,
-        };
+        let second = first.and_then(|first| self.partners(stage, column, first));
         Cursor {
             column,
             first,

@@ -180,6 +180,7 @@ impl Pair<'_> {
     }
 
     /// The whole point taken for an inner crossing, by its part of the way along the target.
+    // Stays: that a crossing is inner is asked of three calls, each made by the one before; a type for inner pairs would be made once.
     fn cross_point(self) -> IntPoint
         requires { Inner (edge_of self.target.now) (edge_of self.other.now) }
         ensures { point_of result ≡ taken (edge_of self.entry.target.now) (edge_of self.entry.other.now) }

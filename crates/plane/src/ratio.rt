@@ -29,6 +29,7 @@ impl Ratio {
     }
 
     /// How far y goes on this part of an offset, to the nearest.
+    // Stays: x alone is cut on a level offset, so the two are no twins.
     pub(crate) fn along_y(self, offset: Offset) -> i64
         ensures { result ≡ nearest (offset.y *ℤ self.n) self.d }
     {
@@ -49,6 +50,7 @@ fn nearest_quotient(n: i64, d: i64) -> i64
 }
 
 /// n / d cut towards 0.
+// Stays: the two quotients round in different ways and share what they have in common, `signed`.
 fn cut_quotient(n: i64, d: i64) -> i64
     requires n_bound { unsigned_abs n ≤ 2 ^ 61 }
     requires d_nonzero { 0 < unsigned_abs d }

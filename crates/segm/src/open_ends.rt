@@ -24,6 +24,7 @@ fn second_end<C: WindingCount>(s: Segment<C>) -> Corner<C>
 }
 
 // Where a segment begins, with the inverse of its count.
+// Stays: as `second_end`.
 fn first_end<C: WindingCount>(s: Segment<C>) -> Corner<C>
     ensures { result ≡ begins_of C.WindingCount.kind s }
 {

@@ -1,4 +1,5 @@
 //! How records move within the places of a table.
+// Stays: a slice and how much of it is used, since no table is sound while its records move.
 ghost use Rattle.std.specs.Prelude.{◌≡◌, ℕ, ◌+◌, ◌-◌, ◌<◌, ◌≤◌, ◌∷◌, length, take, drop, replicate, MatchResult};
 ghost use Rattle.std.specs.List.{insert, remove};
 ghost use Rattle.table.specs.Contents.{Came, Refused, Replaced, content};

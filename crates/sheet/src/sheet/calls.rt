@@ -108,9 +108,9 @@ impl<'a, C: WindingCount> Sheet<'a, C> {
                 rounds: 0,
             });
         }
-        // The rounds are counted since they are answered.
         let mut rounds = 0;
         let mut has_marks = false;
+        // Stays: the rounds are counted by hand, since they are answered, also where one is refused.
         while rounds < budget && self.state != SheetState::Clean {
             let answer = self
                 .round(finder)
