@@ -32,9 +32,9 @@ use Rattle.grid.proofs.Laid.{listed_laid, length_laid, laid_push, edges_append, 
 use Rattle.grid.proofs.Placing.{last_few}
 use Rattle.grid.proofs.Walks.{grid_walk}
 
-pub sound_empty : {table : List Fragment} {n : ℕ} {b : Box} {l : Layout} {heads : List (Option ℕ)} → n ≤ 4096 → width b <ℤ pos (2 ^ 32) → l ≡ layout b n → Sound table 0 0 n b l heads Filling
+pub sound_empty : {table : List Fragment} {shown n : ℕ} {b : Box} {l : Layout} {heads : List (Option ℕ)} → shown ≡ 0 → n ≤ 4096 → width b <ℤ pos (2 ^ 32) → l ≡ layout b n → Sound table 0 shown n b l heads Filling
 unfolding edges_in laid
-sound_empty h w e = record { room = omega arith; holds = refl; counts = refl; below = omega arith; few = h; wide = w; layout_is = e; lies = tt; stands = record { linked = λ t. absurd (false≢true t); stands = tt } }
+sound_empty z h w e = record { room = omega arith; holds = refl; counts = sym z; below = omega (arith, z); few = h; wide = w; layout_is = e; lies = tt; stands = record { linked = λ t. absurd (false≢true t); stands = tt } }
 
 -- ---- one more edge
 idle_pairs : (l : Layout) (ms : List Content) (state : WalkState) → walking? state ≡ false → coming_pairs l ms state ≡ []
@@ -121,56 +121,56 @@ walk_prop es ps x y = λ i. record {
 }
 
 module _ (g : FragmentBuffer) where
-  pub known_layout : layout_of g.layout ≡ layout (box_of g.extent) g.announced
+  pub known_layout : layout_of g.layout ≡ layout (box_of g.intake.extent) g.intake.announced
   known_layout = layout_ext
       (∥∥₁_elim g.sound (ℤ_set _ _) (λ s. ap (λ (l : Layout). l.left) s.layout_is))
       (∥∥₁_elim g.sound (ℕ_set _ _) (λ s. ap (λ (l : Layout). l.power) s.layout_is))
 
-  pub known_shown : length (grid_meaning g).shown ≡ g.shown
+  pub known_shown : length (grid_meaning g).shown ≡ g.intake.shown
   known_shown = ∥∥₁_elim g.sound (ℕ_set _ _) (λ s. s.counts)
 
   pub known_room : g.used ≤ (grid_meaning g).capacity
   known_room = ∥∥₁_elim g.sound le_prop (λ s. s.room)
 
-  pub known_few : g.announced ≤ 4096
+  pub known_few : g.intake.announced ≤ 4096
   known_few = ∥∥₁_elim g.sound le_prop (λ s. s.few)
 
-  pub known_wide : width (box_of g.extent) <ℤ pos (2 ^ 32)
+  pub known_wide : width (box_of g.intake.extent) <ℤ pos (2 ^ 32)
   known_wide = ∥∥₁_elim g.sound lt_prop (λ s. s.wide)
 
   pub known_standing : Standing (take g.used g.fragments.now) g.heads g.state
   known_standing = ∥∥₁_elim g.sound (standing_prop (take g.used g.fragments.now) g.heads g.state) (λ s. s.stands)
 
-  pub known_need : grid_need (box_of g.extent) g.announced (grid_meaning g).shown ≡ g.used
+  pub known_need : grid_need (box_of g.intake.extent) g.intake.announced (grid_meaning g).shown ≡ g.used
   unfolding grid_need
   known_need = ∥∥₁_elim g.sound (ℕ_set _ _) go
     where
-      go : Sound g.fragments.now g.used g.shown g.announced (box_of g.extent) (layout_of g.layout) g.heads g.state
-          → grid_need (box_of g.extent) g.announced (grid_meaning g).shown ≡ g.used
+      go : Sound g.fragments.now g.used g.intake.shown g.intake.announced (box_of g.intake.extent) (layout_of g.layout) g.heads g.state
+          → grid_need (box_of g.intake.extent) g.intake.announced (grid_meaning g).shown ≡ g.used
       go s =
-          sym (length_laid (layout (box_of g.extent) g.announced) 0 (grid_meaning g).shown)
+          sym (length_laid (layout (box_of g.intake.extent) g.intake.announced) 0 (grid_meaning g).shown)
           ∙ ap (λ (l : Layout). length (laid l 0 (grid_meaning g).shown)) (sym s.layout_is)
           ∙ sym (ap length s.holds) ∙ length-map (take g.used g.fragments.now) content ∙ length-take g.used g.fragments.now ∙ omega (arith, s.room)
 
   pub known_pairs : flat_map (stage_pairs (layout_of g.layout) Columns (contents (take g.used g.fragments.now))) (range_with_len 0 (limit Columns))
       ++ flat_map (stage_pairs (layout_of g.layout) Borders (contents (take g.used g.fragments.now))) (range_with_len 0 (limit Borders))
-      ≡ grid_pairs (box_of g.extent) g.announced (grid_meaning g).shown
+      ≡ grid_pairs (box_of g.intake.extent) g.intake.announced (grid_meaning g).shown
   unfolding grid_pairs
   known_pairs = ∥∥₁_elim g.sound (is_set (Σ_set ℕ_set (λ _. ℕ_set)) _ _) (λ s.
       all_same (layout_of g.layout) (contents (take g.used g.fragments.now)) (grid_meaning g).shown s.holds
       ∙ ap (λ (l : Layout). flat_map (column_pairs l (grid_meaning g).shown) (range_with_len 0 most_columns) ++ flat_map (border_pairs l (grid_meaning g).shown) (range_with_len 0 (limit Borders))) s.layout_is)
 
-  pub known_walk : Walk (grid_meaning g).shown (grid_pairs (box_of g.extent) g.announced (grid_meaning g).shown)
+  pub known_walk : Walk (grid_meaning g).shown (grid_pairs (box_of g.intake.extent) g.intake.announced (grid_meaning g).shown)
   known_walk = ∥∥₁_elim g.sound (walk_prop _ _) (λ s.
-      grid_walk (box_of g.extent) g.announced (grid_meaning g).shown s.few (omega (arith, s.counts, s.below)) s.wide s.lies)
+      grid_walk (box_of g.intake.extent) g.intake.announced (grid_meaning g).shown s.few (omega (arith, s.counts, s.below)) s.wide s.lies)
 
   pub known_narrow : Narrow (contents (take g.used g.fragments.now))
   known_narrow = ∥∥₁_elim g.sound (Π_prop (λ k. →_prop le_prop)) (λ s k h.
       All-get_or (λ (q : Content). q.column < most_columns) (contents (take g.used g.fragments.now)) k blank_content h
       (subst (λ (ms : List Content). AllByRecursion (λ q. q.column < most_columns) ms) (sym s.holds)
       (laid_below (layout_of g.layout) 0 most_columns (grid_meaning g).shown
-      (All-weaker (Lies (box_of g.extent)) (λ e. last_column (layout_of g.layout) e < most_columns) (λ e l.
-      subst (λ (l : Layout). last_column l e < most_columns) (sym s.layout_is) (last_few (box_of g.extent) g.announced e s.few s.wide l))
+      (All-weaker (Lies (box_of g.intake.extent)) (λ e. last_column (layout_of g.layout) e < most_columns) (λ e l.
+      subst (λ (l : Layout). last_column l e < most_columns) (sym s.layout_is) (last_few (box_of g.intake.extent) g.intake.announced e s.few s.wide l))
       (grid_meaning g).shown s.lies))))
 
   -- what a walk may give
@@ -180,7 +180,7 @@ module _ (g : FragmentBuffer) where
     where
       go : (st : WalkState)
           → cond (walking? st) (coming_pairs (layout_of g.layout) (contents (take g.used g.fragments.now)) st ≡ ready_pairs (layout_of g.layout) (contents (take g.used g.fragments.now)) st)
-          (grid_walks (box_of g.extent) g.announced (grid_meaning g).shown (ready_pairs (layout_of g.layout) (contents (take g.used g.fragments.now)) st)
+          (grid_walks (box_of g.intake.extent) g.intake.announced (grid_meaning g).shown (ready_pairs (layout_of g.layout) (contents (take g.used g.fragments.now)) st)
           × Walk (grid_meaning g).shown (ready_pairs (layout_of g.layout) (contents (take g.used g.fragments.now)) st))
       go Filling = (known_pairs, subst (λ (ps : List Pair). Walk (grid_meaning g).shown ps) (sym known_pairs) known_walk)
       go (Column at) = refl

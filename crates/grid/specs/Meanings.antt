@@ -8,8 +8,8 @@ use Rattle.grid.specs.declared.fragment_buffer.FragmentBuffer.{FragmentBuffer}
 
 abbrev pub grid_meaning : FragmentBuffer → Meaning
 grid_meaning g = record {
-  box = box_of g.extent;
-  announced = g.announced;
+  box = box_of g.intake.extent;
+  announced = g.intake.announced;
   shown = edges_in (layout_of g.layout) (contents (take g.used g.fragments.now));
   coming = coming_pairs (layout_of g.layout) (contents (take g.used g.fragments.now)) g.state;
   walking = walking? g.state;

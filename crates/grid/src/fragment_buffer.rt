@@ -7,7 +7,7 @@ use crate::cursor::WalkState;
 use crate::fragment::Fragment;
 use crate::grid_layout::GridLayout;
 use crate::linking::COLUMNS;
-use finder::int_rect::IntRect;
+use finder::intake::Intake;
 
 pub mod methods;
 
@@ -15,11 +15,9 @@ pub mod methods;
 pub struct FragmentBuffer<'a> {
     fragments: &'a mut [Fragment],
     used: usize,
-    shown: usize,
-    announced: usize,
-    extent: IntRect,
+    intake: Intake,
     layout: GridLayout,
     heads: [Option<usize>; COLUMNS],
     state: WalkState,
-    ghost sound: { ∥ Sound fragments.now used shown announced (box_of extent) (layout_of layout) heads state ∥₁ },
+    ghost sound: { ∥ Sound fragments.now used intake.shown intake.announced (box_of intake.extent) (layout_of layout) heads state ∥₁ },
 }

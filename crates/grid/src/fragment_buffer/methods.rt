@@ -14,9 +14,9 @@ use crate::grid_layout::GridLayout;
 use crate::laid_edge::LaidEdge;
 use crate::linked_table::LinkedTable;
 use crate::linking::{COLUMNS, MOST_FRAGMENTS, link};
-use finder::checking::{announced_edges, checked};
 use finder::finding::Finder;
 use finder::int_rect::IntRect;
+use finder::intake::Intake;
 use plane::fault::Fault;
 use plane::plain_point::PlainPoint;
 
@@ -26,13 +26,12 @@ impl<'a> FragmentBuffer<'a> {
         ensures unstarted { grid_meaning result ≡ unstarted (min (length fragments.old) 524288) }
         ensures worked { WorkedGrids }
     {
-        let layout = GridLayout::new(IntRect::ZERO, 0);
+        let intake = Intake::new(IntRect::ZERO, 0);
+        let layout = GridLayout::new(intake.extent, intake.announced);
         FragmentBuffer {
             fragments,
             used: 0,
-            shown: 0,
-            announced: 0,
-            extent: IntRect::ZERO,
+            intake,
             layout,
             heads: [None; COLUMNS],
             state: WalkState::Filling,
@@ -48,28 +47,25 @@ impl<'a> Finder for FragmentBuffer<'a> {
     ghost walks = { grid_walks };
 
     fn start(&mut self, extent: IntRect, number: usize) {
-        let announced = announced_edges(number);
+        let intake = Intake::new(extent, number);
         self.used = 0;
-        self.shown = 0;
-        self.announced = announced;
-        self.extent = extent;
-        self.layout = GridLayout::new(extent, announced);
+        self.intake = intake;
+        self.layout = GridLayout::new(intake.extent, intake.announced);
         self.state = WalkState::Filling;
     }
 
     fn show(&mut self, a: PlainPoint, b: PlainPoint) -> Result<(), Fault> {
-        let walking = self.state.is_walking();
-        let s = checked(walking, self.announced, self.shown, self.extent, a, b)?;
+        let s = self.intake.check(self.state.is_walking(), a, b)?;
         let laid = LaidEdge::new(self.layout, s);
         let count = laid.count();
         let capacity = self.fragments.len().min(MOST_FRAGMENTS);
         if capacity - self.used < count {
-            return Err(Fault::FinderFull(self.shown));
+            return Err(Fault::FinderFull(self.intake.shown));
         }
         let end = self.used + count;
-        laid.lay(self.shown, &mut self.fragments[self.used..end]);
+        laid.lay(self.intake.shown, &mut self.fragments[self.used..end]);
         self.used = end;
-        self.shown += 1;
+        self.intake.shown += 1;
         Ok(())
     }
 

@@ -1,5 +1,5 @@
-use Rattle.std.proofs.Common.{ℕ, false, [], ap, w32, SFits, rules}
-use Rattle.finder.specs.Finders.{Meaning, box_of}
+use Rattle.std.proofs.Common.{false, [], rules}
+use Rattle.finder.specs.Finders.{box_of}
 use Rattle.grid.specs.Meanings.{grid_meaning}
 use Rattle.grid.specs.Tables.{edges_in, coming_pairs}
 use Rattle.grid.proofs.Sizes.{box_narrow}
@@ -8,13 +8,16 @@ use Rattle.grid.proofs.fragment_buffer.methods.FragmentBufferFinder.start.Goals 
 
 pub invariant_of-self : goal.invariant_of-self
 invariant_of-self c =
-    let m : SFits w32 c.args.extent.min_x = search rules in
-    let k : SFits w32 c.args.extent.max_x = search rules in
-    record { sound = ∣ sound_empty c.announced_edges-announced.ensures.few (box_narrow c.args.extent.min_x c.args.extent.max_x m k) c.new-self.ensures ∣₁ }
+    let i = c.new-intake.ensures in
+    record { sound = ∣ sound_empty i.shown i.few (box_narrow c.new-intake.result.extent.min_x c.new-intake.result.extent.max_x (search rules) (search rules)) c.new-self.ensures ∣₁ }
 
 pub returns : goal.returns
 unfolding edges_in coming_pairs
-returns c = ap now c.announced_edges-announced.ensures.value
-  where
-    now : ℕ → Meaning
-    now n = record { box = box_of c.args.extent; announced = n; shown = []; coming = []; walking = false; capacity = (grid_meaning c.args.self.now).capacity }
+returns c = λ i. record {
+  box = box_of (c.new-intake.ensures.extent i);
+  announced = c.new-intake.ensures.announced i;
+  shown = [];
+  coming = [];
+  walking = false;
+  capacity = (grid_meaning c.args.self.now).capacity;
+}
