@@ -1,6 +1,6 @@
 -- Marks that come to a table: they are told with those before, or there are more than it has room for.
 use Rattle.std.proofs.Common.{◌≡◌, ℕ, Bool, true, false, cond, ◌||◌, List, [], ◌∷◌, ◌++◌, IsErrAnd, Some, None, Ok, Err, Result, sym, refl, ap, ◌∙◌, subst, arith, MatchResult}
-use mathlib.Core.Bool.{or-false, or_assoc, or_comm}
+use mathlib.Core.Bool.{or-false, or_comm}
 use Rattle.std.specs.Ordering.{is_eq}
 use Rattle.std.proofs.lemmas.List.{length-take-le}
 use Rattle.std.proofs.lemmas.Result.{MatchResult-weaker}
@@ -9,17 +9,14 @@ use Rattle.table.specs.Contents.{Content, Answers, Sound, records}
 use Rattle.table.specs.Listings.{record_at}
 use Rattle.plane.specs.PointOf.{point_of}
 use Rattle.segm.specs.MarkKind.{mark_kind, mark_itself}
-use Rattle.segm.specs.Marked.{Marked, holds?, same_mark?, with_mark}
+use Rattle.segm.specs.Marked.{holds?, same_mark?, with_mark}
+use Rattle.segm.specs.Spots.{Spot, spots, at_one?}
 use Rattle.segm.specs.declared.line_mark.LineMark.{LineMark}
+use Rattle.segm.proofs.Coming.{marked_as, told_append}
 use Rattle.segm.proofs.Marking.{came_marked}
-use Rattle.rounds.specs.Spots.{Spot, spots, at_one?}
-use Rattle.rounds.proofs.PairMarksTold.{at_one_append}
 use Rattle.marking.specs.Gathering.{Noted, Notes, Overflow, SameSize}
 
 -- ---- another test
-pub marked_as : (P Q : LineMark → Bool) (l : List LineMark) → ((m : LineMark) → P m ≡ Q m) → Marked P l → Marked Q l
-marked_as P Q l same h = record { ordered = h.ordered; each = λ m. h.each m ∙ same m }
-
 pub overflow_more : (P Q : LineMark → Bool) (n : ℕ) → ((m : LineMark) → P m ≡ true → Q m ≡ true) → Overflow P n → Overflow Q n
 overflow_more P Q n more h = record {
   held = h.held;
@@ -68,8 +65,8 @@ module _ (ts us : List Spot) (before : Content LineMark) where
       → ((P : LineMark → Bool) → Noted P before → Noted (λ x. P x || at_one? ts x) middle) → Notes us middle after r → Notes (ts ++ us) before after r
   notes_then middle after r size first second P h =
       MatchResult-weaker r (second Q (first P h))
-      (λ _ w. marked_as (λ x. Q x || at_one? us x) R (records after) same w)
-      (λ _ w. subst (Overflow R) size.room (overflow_more (λ x. Q x || at_one? us x) R middle.room (λ x e. sym (same x) ∙ e) w))
+      (λ _ w. marked_as (λ x. Q x || at_one? us x) R (records after) (told_append P ts us) w)
+      (λ _ w. subst (Overflow R) size.room (overflow_more (λ x. Q x || at_one? us x) R middle.room (λ x e. sym (told_append P ts us x) ∙ e) w))
     where
       Q : LineMark → Bool
       Q x = P x || at_one? ts x
@@ -77,18 +74,13 @@ module _ (ts us : List Spot) (before : Content LineMark) where
       R : LineMark → Bool
       R x = P x || at_one? (ts ++ us) x
 
-      same : (x : LineMark) → (Q x || at_one? us x) ≡ R x
-      same x = or_assoc (P x) (at_one? ts x) (at_one? us x) ∙ ap (λ b. P x || b) (sym (at_one_append ts us x))
-
   -- already the first were too many
   pub notes_short : ((P : LineMark → Bool) → Noted P before → Overflow (λ x. P x || at_one? ts x) before.room)
       → (P : LineMark → Bool) → Noted P before → Overflow (λ x. P x || at_one? (ts ++ us) x) before.room
   notes_short first P h = overflow_more (λ x. P x || at_one? ts x) (λ x. P x || at_one? (ts ++ us) x) before.room more (first P h)
     where
       more : (x : LineMark) → (P x || at_one? ts x) ≡ true → (P x || at_one? (ts ++ us) x) ≡ true
-      more x e =
-          ap (λ b. P x || b) (at_one_append ts us x) ∙ sym (or_assoc (P x) (at_one? ts x) (at_one? us x))
-          ∙ or_left (P x || at_one? ts x) (at_one? us x) e
+      more x e = sym (told_append P ts us x) ∙ or_left (P x || at_one? ts x) (at_one? us x) e
 
 -- ---- a refusal that is passed on, and one that is turned into another
 pub at_refusal : {T E : Type 0} (r : Result T E) (f : E) (P : T → Type 0) (Q : E → Type 0) → IsErrAnd r (λ d. d ≡ f) → Q f → MatchResult r P Q

@@ -12,10 +12,11 @@ use Rattle.finder.specs.Filling.{FullAt}
 use Rattle.segm.specs.MarkKind.{mark_kind}
 use Rattle.segm.specs.Marked.{Marked, holds?}
 use Rattle.segm.specs.Segments.{ends_of}
+use Rattle.segm.specs.Spots.{Spot, at_one?}
 use Rattle.segm.specs.declared.segment.Segment.{Segment}
 use Rattle.segm.specs.declared.line_mark.LineMark.{LineMark}
 use Rattle.rounds.specs.Marks.{MarksOf, MoreMarks, SomeRounded}
-use Rattle.rounds.specs.Spots.{Spot, at_one?, all_spots, any_rounded?}
+use Rattle.rounds.specs.Spots.{all_spots, any_rounded?}
 use Rattle.history.specs.Rounds.{Use, Shown}
 use Rattle.history.specs.Sheets.{Page, ends, mark_places}
 use Rattle.history.specs.declared.answers.RoundAnswer.{RoundAnswer}

@@ -13,27 +13,12 @@ use Rattle.plane.specs.declared.cross_solver.EdgeMarks.TheVariants.{One, Two}
 use Rattle.plane.specs.declared.int_point.IntPoint.{IntPoint}
 use Rattle.drawing.specs.declared.drawn_edge.DrawnEdge.{DrawnEdge}
 use Rattle.segm.specs.Marked as listing
+use Rattle.segm.specs.Spots.{spots, at_one?, Come}
 use Rattle.segm.specs.declared.line_mark.LineMark.{LineMark}
+use Rattle.segm.proofs.Coming.{marked_as, come_none, come_then}
 use Rattle.table.specs.Contents.{Content, records, Sound, unused}
 use Rattle.segm.specs.MarkKind.{mark_kind}
-use Rattle.report.specs.Marks.{Spot, edge_in, edges_of, spots, marks_on, rounded_on?, all_marks, any_rounded?, at?, at_one?, Come, Marked}
-
--- another test that tells the same
-retold : (P Q : LineMark → Bool) (l : List LineMark) → ((m : LineMark) → P m ≡ Q m) → listing.Marked P l → listing.Marked Q l
-retold P Q l same h = record { ordered = h.ordered; each = λ m. h.each m ∙ same m }
-
-at_one_append : (ts us : List Spot) (m : LineMark) → at_one? (ts ++ us) m ≡ (at_one? ts m || at_one? us m)
-at_one_append [] us m = refl
-at_one_append (t ∷ ts) us m = ap (λ b. at? t m || b) (at_one_append ts us m) ∙ sym (or_assoc (at? t m) (at_one? ts m) (at_one? us m))
-
-come_none : (l : List LineMark) → Come [] l l
-come_none l P h = retold P (λ m. P m || false) l (λ m. sym (or-false (P m))) h
-
-come_then : (ts us : List Spot) (k l m : List LineMark) → Come ts k l → Come us l m → Come (ts ++ us) k m
-come_then ts us k l m first second P h =
-    retold (λ n. (P n || at_one? ts n) || at_one? us n) (λ n. P n || at_one? (ts ++ us) n) m
-    (λ n. or_assoc (P n) (at_one? ts n) (at_one? us n) ∙ ap (λ b. P n || b) (sym (at_one_append ts us n)))
-    (second (λ n. P n || at_one? ts n) (first P h))
+use Rattle.report.specs.Marks.{edge_in, edges_of, marks_on, rounded_on?, all_marks, any_rounded?, Marked}
 
 abbrev mark : ℕ → IntPoint → LineMark
 mark i p = record { index = i; point = p }
@@ -45,7 +30,7 @@ Joined m k l = (P : LineMark → Bool) → listing.Marked P k → listing.Marked
 come_one : (i : ℕ) (p : IntPoint) (k l : List LineMark) → Joined (mark i p) k l → Come (spots i (point_of p ∷ [])) k l
 come_one i p k l joined P h =
     let m = mark i p in
-    retold (listing.with_mark m P) (λ n. P n || (listing.same_mark? n m || false)) l
+    marked_as (listing.with_mark m P) (λ n. P n || (listing.same_mark? n m || false)) l
     (λ n. or_comm (listing.same_mark? n m) (P n) ∙ ap (λ b. P n || b) (sym (or-false (listing.same_mark? n m)))) (joined P h)
 
 -- what comes of the points of a crossing

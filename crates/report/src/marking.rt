@@ -1,8 +1,9 @@
 //! The marks of a drawing: what the crossings of its edges mark, in order and each once.
 ghost use Rattle.std.specs.Prelude.{◌≡◌, IfSome, IfOk, OnOk};
 ghost use Rattle.plane.specs.Models.{edge_of, points_of};
+ghost use Rattle.segm.specs.Spots.{Come, spots};
 ghost use Rattle.table.specs.Tables.{records_of};
-ghost use Rattle.report.specs.Marks.{Alone, Come, Marked, all_marks, any_rounded?, edges_of, marks_on, rounded_on?, spots};
+ghost use Rattle.report.specs.Marks.{Alone, Marked, all_marks, any_rounded?, edges_of, marks_on, rounded_on?};
 
 use drawing::drawing::Drawing;
 use drawing::drawn_edge::DrawnEdge;

@@ -1,6 +1,6 @@
 -- The marks at the spots of the pairs of a walk are just the marks of the list.
-use Rattle.std.proofs.Common.{◌≡◌, ℕ, ◌<◌, Bool, true, false, cond, ◌||◌, ◌≢◌, ◌⊎◌, ◌↔◌, List, [], ◌∷◌, ◌++◌, length, Ordering, Less, Equal, Greater, sym, refl, ap, ◌∙◌, subst, inl, inr, arith}
-use mathlib.Core.Bool.{or_assoc, Bool-set, false≢true}
+use Rattle.std.proofs.Common.{◌≡◌, ℕ, ◌<◌, Bool, true, false, cond, ◌||◌, ◌≢◌, ◌⊎◌, ◌↔◌, List, [], ◌∷◌, length, Ordering, Less, Equal, Greater, sym, refl, ap, ◌∙◌, subst, inl, inr, arith}
+use mathlib.Core.Bool.{Bool-set, false≢true}
 use mathlib.Core.Logic.{∥∥₁_elim}
 use Rattle.std.specs.Cmp.{ranks}
 use Rattle.std.specs.Ordering.{is_eq, MatchOrdering, ordering_then, nat_cmp}
@@ -17,14 +17,12 @@ use Rattle.finder.specs.Finders.{Pair, Walk, blank_edge, edge_at}
 use Rattle.segm.specs.Orders.{point_order}
 use Rattle.segm.specs.OrderLaws.{equal_points}
 use Rattle.segm.specs.MarkKind.{mark_itself}
+use Rattle.segm.specs.Spots.{Spot, spots, at?, at_one?}
 use Rattle.segm.specs.declared.line_mark.LineMark.{LineMark}
+use Rattle.segm.proofs.Coming.{at_one_append}
 use Rattle.rounds.specs.Marks.{MarkedBy, Told, RoundedPair, SomeRounded}
-use Rattle.rounds.specs.Spots.{Spot, spots, at?, at_one?, pair_spots, all_spots, any_rounded?}
+use Rattle.rounds.specs.Spots.{pair_spots, all_spots, any_rounded?}
 use Rattle.rounds.proofs.Members.{in_at}
-
-pub at_one_append : (ts us : List Spot) (m : LineMark) → at_one? (ts ++ us) m ≡ (at_one? ts m || at_one? us m)
-at_one_append [] us m = refl
-at_one_append (t ∷ ts) us m = ap (λ b. at? t m || b) (at_one_append ts us m) ∙ sym (or_assoc (at? t m) (at_one? ts m) (at_one? us m))
 
 -- ---- a mark at points on one edge
 module _ (i : ℕ) (m : LineMark) where

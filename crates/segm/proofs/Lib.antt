@@ -5,6 +5,7 @@ pub mod Totals
 pub mod Counting
 pub mod Adding
 pub mod Marking
+pub mod Coming
 pub mod Corners
 pub mod Growing
 pub mod Opening

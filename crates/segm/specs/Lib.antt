@@ -10,6 +10,7 @@ pub mod SegmentKind
 pub mod Marks
 pub mod MarkKind
 pub mod Marked
+pub mod Spots
 pub mod Balance
 pub mod Laws
 pub mod Corners

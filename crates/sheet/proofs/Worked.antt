@@ -28,13 +28,14 @@ use Rattle.segm.specs.MarkKind.{mark_kind}
 use Rattle.segm.specs.Marked.{holds?, same_mark?}
 use Rattle.segm.specs.Segments.{ends_of}
 use Rattle.segm.specs.SegmentKind.{segment_kind}
+use Rattle.segm.specs.Spots.{at_one?}
 use Rattle.segm.specs.declared.boolean.ShapeCountBoolean.{ShapeCountBoolean}
 use Rattle.segm.specs.declared.line_mark.LineMark.{LineMark}
 use Rattle.segm.specs.declared.segment.Segment.{Segment}
 use Rattle.segm.proofs.Groups.{identity_left}
 use Rattle.rounds.specs.Marks.{Told, MarksOf, SomeRounded}
 use Rattle.rounds.specs.Pieces.{cut_from}
-use Rattle.rounds.specs.Spots.{at_one?, all_spots, any_rounded?}
+use Rattle.rounds.specs.Spots.{all_spots, any_rounded?}
 use Rattle.rounds.proofs.Apart.{ordered_distinct, segments_sheet}
 use Rattle.rounds.proofs.PairMarksTold.{told_exactly, some_exactly}
 use Rattle.history.specs.Rounds.{Use, Shown, Round, state_after, exponent_after, marks_full, pieces_full}

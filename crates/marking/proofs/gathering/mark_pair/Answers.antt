@@ -1,7 +1,7 @@
 use Rattle.std.proofs.Common.{◌++◌, Ok, Err, subst}
 use Rattle.std.proofs.lemmas.Result.{MatchResult-at_err, MatchResult-at_ok}
 use Rattle.plane.specs.Models.{points_of}
-use Rattle.rounds.specs.Spots.{spots}
+use Rattle.segm.specs.Spots.{spots}
 use Rattle.table.specs.Tables.{content_of}
 use Rattle.table.specs.declared.ordered_table.NoRoom.{NoRoom}
 use Rattle.marking.specs.Gathering.{Notes}

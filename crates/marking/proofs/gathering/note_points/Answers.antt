@@ -1,6 +1,6 @@
 use Rattle.std.proofs.Common.{[], ◌∷◌, ◌++◌}
 use Rattle.plane.specs.PointOf.{point_of}
-use Rattle.rounds.specs.Spots.{spots}
+use Rattle.segm.specs.Spots.{spots}
 use Rattle.table.specs.Tables.{content_of}
 use Rattle.marking.proofs.Noting.{notes_refused, notes_short, notes_then}
 use Rattle.marking.proofs.gathering.note_points.Goals as goal
