@@ -11,6 +11,7 @@ use finder::intake::Intake;
 
 pub mod methods;
 
+// Stays: how many places are used stands beside them, since the table is the caller's slice.
 #[derive(Drop)]
 pub struct FragmentBuffer<'a> {
     fragments: &'a mut [Fragment],

@@ -99,7 +99,11 @@ impl LinkedTable<'_> {
         requires named { Names (contents self.now.table.now) (first_of stage column) first }
         ensures { Begun (layout_of self.now.layout) stage (contents self.now.table.now) column first result }
     {
-        let second = first.and_then(|first| self.partners(stage, column, first));
+        // Stays: tried with `and_then`; the proof did not close, since what its closure answers names no call.
+        let second = match first {
+            Some(first) => self.partners(stage, column, first),
+            None => None,
+        };
         Cursor {
             column,
             first,
