@@ -14,7 +14,7 @@ use Rattle.finder.proofs.Showing.{edge_at_map}
 use Rattle.finder.proofs.Walking.{Came, begun, came_none, came_more, came_all, numbers}
 use Rattle.segm.specs.Marked.{Marked}
 use Rattle.segm.specs.Segments.{ends_of}
-use Rattle.segm.specs.Spots.{spots, at_one?}
+use Rattle.segm.specs.Spots.{spots, at_one?, Overflow, SameSize}
 use Rattle.segm.specs.declared.line_mark.LineMark.{LineMark}
 use Rattle.segm.specs.declared.segment.Segment.{Segment}
 use Rattle.segm.proofs.Coming.{at_one_append, marked_as}
@@ -22,7 +22,7 @@ use Rattle.rounds.specs.Marks.{Told, MoreMarks}
 use Rattle.rounds.specs.Spots.{pair_spots, all_spots, any_rounded?}
 use Rattle.rounds.proofs.Members.{in_at}
 use Rattle.rounds.proofs.PairMarksTold.{pair_told, pairs_told}
-use Rattle.marking.specs.Gathering.{AllProper, Noted, Overflow, PairsMarked, SameSize}
+use Rattle.marking.specs.Gathering.{AllProper, Noted, PairsMarked}
 
 -- ---- the edge at a number
 module _ {C : Type 0} (xs : List (Segment C)) (i : ℕ) (x : Segment C) (h : i < length xs) (is : x ≡ get_or xs i x) where

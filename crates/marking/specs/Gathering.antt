@@ -1,7 +1,6 @@
 -- A table that marks come to, and the marks of the pairs that a finder gives.
-use Rattle.std.specs.Prelude.{◌≡◌, ℕ, Bool, true, false, ◌||◌, ◌↔◌, List, [], length, Result, MatchResult}
+use Rattle.std.specs.Prelude.{◌≡◌, ℕ, Bool, true, ◌||◌, ◌↔◌, List, [], length, Result, MatchResult}
 use Rattle.table.specs.Contents.{Content, records}
-use Rattle.table.specs.Listings.{Ordered}
 use Rattle.plane.specs.Edges.{Edge, Proper}
 use Rattle.plane.specs.Rules.{In}
 use Rattle.plane.specs.declared.fault.Fault.{Fault}
@@ -9,10 +8,9 @@ use Rattle.plane.specs.declared.fault.Fault.TheVariants.{FinderFull, MarksFull}
 use Rattle.finder.specs.Finders.{Pair, Meaning, Needs, Walks, MayCome, walking_on, Walk}
 use Rattle.finder.specs.Boxes.{edges_box}
 use Rattle.finder.specs.Filling.{FullAt}
-use Rattle.segm.specs.MarkKind.{mark_kind}
-use Rattle.segm.specs.Marked.{Marked, holds?}
+use Rattle.segm.specs.Marked.{Marked}
 use Rattle.segm.specs.Segments.{ends_of}
-use Rattle.segm.specs.Spots.{Spot, at_one?}
+use Rattle.segm.specs.Spots.{Spot, at_one?, Overflow}
 use Rattle.segm.specs.declared.segment.Segment.{Segment}
 use Rattle.segm.specs.declared.line_mark.LineMark.{LineMark}
 use Rattle.rounds.specs.Marks.{MarksOf, MoreMarks, SomeRounded}
@@ -24,21 +22,6 @@ use Rattle.history.specs.declared.answers.RoundAnswer.{RoundAnswer}
 -- a table lists the marks that P tells
 abbrev pub Noted : (LineMark → Bool) → Content LineMark → Type 0
 Noted P table = Marked P (records table)
-
--- P tells more than n marks: n in strict order, and another
-pub record Overflow (P : LineMark → Bool) (n : ℕ) : Type 0 where
-  pub held : List LineMark
-  pub ordered : Ordered mark_kind held
-  pub many : length held ≡ n
-  pub each : (m : LineMark) → holds? held m ≡ true → P m ≡ true
-  pub another : LineMark
-  pub new : holds? held another ≡ false
-  pub told : P another ≡ true
-
--- a table has as many places, and as much room, as it had
-pub record SameSize (before after : Content LineMark) : Type 0 where
-  pub room : after.room ≡ before.room
-  pub places : length after.places ≡ length before.places
 
 -- the marks at the spots came to a table; it is refused only where there are then more than it has room for
 abbrev pub Notes : {T E : Type 0} → List Spot → Content LineMark → Content LineMark → Result T E → Type 0

@@ -1,27 +1,24 @@
 //! The marks of all pairs that a finder gives.
-ghost use Rattle.std.specs.Prelude.{◌≡◌, ◌<◌, false, [], ◌∷◌, map, length, IfOk, MatchResult};
-ghost use Rattle.plane.specs.Models.{points_of};
-ghost use Rattle.plane.specs.PointOf.{point_of};
+ghost use Rattle.std.specs.Prelude.{◌≡◌, ◌<◌, false, [], map, length, IfOk, MatchResult};
 ghost use Rattle.plane.specs.Rules.{rounded?};
 ghost use Rattle.finder.specs.Finders.{edge_at};
 ghost use Rattle.segm.specs.Segments.{ends_of};
-ghost use Rattle.segm.specs.Spots.{spots};
+ghost use Rattle.segm.specs.Spots.{SameSize};
 ghost use Rattle.table.specs.Tables.{content_of, records_of};
 ghost use Rattle.rounds.specs.Marks.{MoreMarks};
 ghost use Rattle.rounds.specs.Spots.{pair_spots};
 ghost use Rattle.history.specs.Sheets.{Page, Sound, mark_places};
 ghost use Rattle.marking.specs.Gathering.{use_of};
-ghost use Rattle.marking.specs.Gathering.{AllProper, Gathered, Notes, PairsMarked, SameSize, Unpieced};
+ghost use Rattle.marking.specs.Gathering.{AllProper, Gathered, Notes, PairsMarked, Unpieced};
 
 use finder::filling::{extent_of, fill};
 use finder::finding::Finder;
 use history::answers::RoundAnswer;
-use plane::cross_solver::{CrossSolver, EdgeMarks};
+use plane::cross_solver::CrossSolver;
 use plane::fault::Fault;
-use plane::int_point::IntPoint;
 use plane::snap_radius::SnapRadius;
 use plane::x_segment::XSegment;
-use segm::joining::join_mark;
+use segm::joining::join_marks;
 use segm::line_mark::LineMark;
 use segm::segment::Segment;
 use segm::winding::WindingCount;
@@ -90,34 +87,7 @@ fn mark_pair<C: WindingCount>(
         return Ok(false);
     };
     let crossed = CrossSolver::marks(&first, &second, radius);
-    note_points(marks, i, crossed.first)?;
-    note_points(marks, j, crossed.second)?;
+    join_marks(marks, i, crossed.first)?;
+    join_marks(marks, j, crossed.second)?;
     Ok(crossed.is_round)
-}
-
-/// Brings the points that a crossing marks on an edge to a table of marks.
-fn note_points(
-    marks: &mut OrderedTable<'_, LineMark>,
-    index: usize,
-    points: EdgeMarks,
-) -> Result<(), NoRoom>
-    ensures notes { Notes (spots index (points_of points)) (content_of marks.old) (content_of marks.new) result }
-    ensures size { SameSize (content_of marks.old) (content_of marks.new) }
-{
-    match points {
-        EdgeMarks::Zero => Ok(()),
-        EdgeMarks::One(point) => note(marks, index, point),
-        EdgeMarks::Two(point, other) => {
-            note(marks, index, point)?;
-            note(marks, index, other)
-        }
-    }
-}
-
-/// Brings one point on an edge to a table of marks.
-fn note(marks: &mut OrderedTable<'_, LineMark>, index: usize, point: IntPoint) -> Result<(), NoRoom>
-    ensures notes { Notes (spots index (point_of point ∷ [])) (content_of marks.old) (content_of marks.new) result }
-    ensures size { SameSize (content_of marks.old) (content_of marks.new) }
-{
-    join_mark(marks, LineMark { index, point })
 }

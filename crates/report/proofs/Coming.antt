@@ -1,47 +1,19 @@
 -- Marks that come to a table, one after another.
 use Rattle.std.proofs.Common.{◌≡◌, ℕ, suc, ◌+◌, ◌<◌, ◌≤◌, Bool, false, ◌||◌, List, [], ◌∷◌, ◌++◌, length, get_or, take, sym, refl, ap, ◌∙◌, subst, append_assoc, append-nil, zero-add, arith}
-use Rattle.std.proofs.Math.Bool.{or_assoc, or_comm, or-false}
+use Rattle.std.proofs.Math.Bool.{or_assoc, or-false}
 use lib.ListN.{length-map}
 use Rattle.std.proofs.lemmas.List.{take_all, map_more, length-take-le}
 use Rattle.plane.specs.Points.{Point}
-use Rattle.plane.specs.PointOf.{point_of}
 use Rattle.plane.specs.Edges.{Edge}
-use Rattle.plane.specs.Models.{points_of}
 use Rattle.plane.specs.Rules.{marked_on, rounded?}
-use Rattle.plane.specs.declared.cross_solver.EdgeMarks.{EdgeMarks}
-use Rattle.plane.specs.declared.cross_solver.EdgeMarks.TheVariants.{One, Two}
-use Rattle.plane.specs.declared.int_point.IntPoint.{IntPoint}
 use Rattle.drawing.specs.declared.drawn_edge.DrawnEdge.{DrawnEdge}
 use Rattle.segm.specs.Marked as listing
 use Rattle.segm.specs.Spots.{spots, at_one?, Come}
 use Rattle.segm.specs.declared.line_mark.LineMark.{LineMark}
-use Rattle.segm.proofs.Coming.{marked_as, come_none, come_then}
+use Rattle.segm.proofs.Coming.{come_none, come_then}
 use Rattle.table.specs.Contents.{Content, records, Sound, unused}
 use Rattle.segm.specs.MarkKind.{mark_kind}
 use Rattle.report.specs.Marks.{edge_in, edges_of, marks_on, rounded_on?, all_marks, any_rounded?, Marked}
-
-abbrev mark : ℕ → IntPoint → LineMark
-mark i p = record { index = i; point = p }
-
--- what the joining of a mark says
-abbrev Joined : LineMark → List LineMark → List LineMark → Type 0
-Joined m k l = (P : LineMark → Bool) → listing.Marked P k → listing.Marked (listing.with_mark m P) l
-
-come_one : (i : ℕ) (p : IntPoint) (k l : List LineMark) → Joined (mark i p) k l → Come (spots i (point_of p ∷ [])) k l
-come_one i p k l joined P h =
-    let m = mark i p in
-    marked_as (listing.with_mark m P) (λ n. P n || (listing.same_mark? n m || false)) l
-    (λ n. or_comm (listing.same_mark? n m) (P n) ∙ ap (λ b. P n || b) (sym (or-false (listing.same_mark? n m)))) (joined P h)
-
--- what comes of the points of a crossing
-module _ (i : ℕ) (more : EdgeMarks) where
-  pub one_come : (p : IntPoint) (k l : List LineMark) → more ≡ One p → Joined (mark i p) k l → Come (spots i (points_of more)) k l
-  one_come p k l is joined = subst (λ e. Come (spots i (points_of e)) k l) (sym is) (come_one i p k l joined)
-
-  pub two_come : (p q : IntPoint) (j k l : List LineMark) → more ≡ Two p q → Joined (mark i p) j k → Joined (mark i q) k l → Come (spots i (points_of more)) j l
-  two_come p q j k l is first second =
-      subst (λ e. Come (spots i (points_of e)) j l) (sym is)
-      (come_then (spots i (point_of p ∷ [])) (spots i (point_of q ∷ [])) j k l (come_one i p j k first) (come_one i q k l second))
 
 module _ (s i : ℕ) (e : Edge) where
   marks_push : (gs : List Edge) (g : Edge) → marks_on s i e (gs ++ g ∷ []) ≡ marks_on s i e gs ++ spots i (marked_on e g s)

@@ -1,16 +1,16 @@
 //! The marks of a drawing: what the crossings of its edges mark, in order and each once.
 ghost use Rattle.std.specs.Prelude.{◌≡◌, IfSome, IfOk, OnOk};
-ghost use Rattle.plane.specs.Models.{edge_of, points_of};
-ghost use Rattle.segm.specs.Spots.{Come, spots};
+ghost use Rattle.plane.specs.Models.{edge_of};
+ghost use Rattle.segm.specs.Spots.{Come};
 ghost use Rattle.table.specs.Tables.{records_of};
 ghost use Rattle.report.specs.Marks.{Alone, Marked, all_marks, any_rounded?, edges_of, marks_on, rounded_on?};
 
 use drawing::drawing::Drawing;
 use drawing::drawn_edge::DrawnEdge;
-use plane::cross_solver::{CrossSolver, EdgeMarks};
+use plane::cross_solver::CrossSolver;
 use plane::snap_radius::SnapRadius;
 use plane::x_segment::XSegment;
-use segm::joining::join_mark;
+use segm::joining::join_marks;
 use segm::line_mark::LineMark;
 use std::alloc::{AllocError, Global};
 use table::keyed::Keyed;
@@ -93,39 +93,9 @@ impl Crossings<'_> {
         let mut is_rounded = false;
         for other in self.edges {
             let crossed = CrossSolver::marks(edge, &other.edge, self.radius);
-            add_marks(table, index, crossed.first)?;
+            join_marks(table, index, crossed.first)?;
             is_rounded |= crossed.is_round;
         }
         Ok(is_rounded)
-    }
-}
-
-/// Adds the marks of one crossing on an edge.
-fn add_marks(
-    table: &mut OrderedTable<'_, LineMark>,
-    index: usize,
-    more: EdgeMarks,
-) -> Result<(), NoRoom>
-    ensures { OnOk result (Come (spots index (points_of more)) (records_of table.old) (records_of table.new)) }
-{
-    match more {
-        EdgeMarks::Zero => Ok(()),
-        EdgeMarks::One(point) => join_mark(table, LineMark { index, point }),
-        EdgeMarks::Two(first, second) => {
-            join_mark(
-                table,
-                LineMark {
-                    index,
-                    point: first,
-                },
-            )?;
-            join_mark(
-                table,
-                LineMark {
-                    index,
-                    point: second,
-                },
-            )
-        }
     }
 }

@@ -1,16 +1,19 @@
 //! Segments joined into a table of edges, and marks into a table of marks.
+ghost use Rattle.plane.specs.Models.{points_of};
 ghost use Rattle.segm.specs.Laws.{Adds, CountsDetermine};
 ghost use Rattle.segm.specs.MarkKind.{mark_kind};
 ghost use Rattle.segm.specs.Marked.{Marked, MarksDetermine, with_mark};
 ghost use Rattle.segm.specs.SegmentKind.{segment_kind};
+ghost use Rattle.segm.specs.Spots.{Come, Crowded, SameSize, spots};
 ghost use Rattle.segm.specs.declared.line_mark.LineMark.{LineMark as Mark};
-ghost use Rattle.std.specs.Prelude.{Bool, OnOk};
+ghost use Rattle.std.specs.Prelude.{Bool, OnErr, OnOk};
 ghost use Rattle.table.specs.Contents.{Answers};
 ghost use Rattle.table.specs.Tables.{content_of, records_of};
 
 use crate::line_mark::LineMark;
 use crate::segment::Segment;
 use crate::winding::WindingCount;
+use plane::cross_solver::EdgeMarks;
 use table::ordered_table::{NoRoom, OrderedTable};
 
 /// Brings a segment to its place: its count is added to that of the edge with its ends, and an empty sum leaves nothing.
@@ -32,4 +35,36 @@ pub fn join_mark(marks: &mut OrderedTable<'_, LineMark>, m: LineMark) -> Result<
     ensures determined { MarksDetermine }
 {
     marks.insert(m)
+}
+
+/// Brings the points that a crossing marks on an edge to their places. It is refused only where there are then more marks than room.
+pub fn join_marks(
+    marks: &mut OrderedTable<'_, LineMark>,
+    index: usize,
+    points: EdgeMarks,
+) -> Result<(), NoRoom>
+    ensures marked { OnOk result (Come (spots index (points_of points)) (records_of marks.old) (records_of marks.new)) }
+    ensures refused { OnErr result (Crowded (spots index (points_of points)) (records_of marks.old) marks.old.room) }
+    ensures size { SameSize (content_of marks.old) (content_of marks.new) }
+{
+    match points {
+        EdgeMarks::Zero => Ok(()),
+        EdgeMarks::One(point) => join_mark(marks, LineMark { index, point }),
+        EdgeMarks::Two(first, second) => {
+            join_mark(
+                marks,
+                LineMark {
+                    index,
+                    point: first,
+                },
+            )?;
+            join_mark(
+                marks,
+                LineMark {
+                    index,
+                    point: second,
+                },
+            )
+        }
+    }
 }

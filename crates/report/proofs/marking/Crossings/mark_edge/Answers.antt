@@ -11,8 +11,8 @@ loop-other-preserved c =
     let crossed = c.marks-crossed.result in
     let told = c.marks-crossed.ensures in
     crossed_more c.args.self.now.radius.current c.args.index (edge_of c.args.edge.now) c.args.self.now.edges.now c.loop-other.other-index c.other-item.result (points_of crossed.first)
-    (records_of c.args.table.now) (records_of c.loop-other.table) (records_of c.add_marks.new.table) c.loop-other.is_rounded crossed.is_round
-    c.loop-other-test.true c.other-item.is told.on_first told.flag c.in_ok-add_marks.ensures c.loop-other.invariant
+    (records_of c.args.table.now) (records_of c.loop-other.table) (records_of c.join_marks.new.marks) c.loop-other.is_rounded crossed.is_round
+    c.loop-other-test.true c.other-item.is told.on_first told.flag c.in_ok-join_marks.ensures.marked c.loop-other.invariant
 
 pub returns : goal.returns
 returns c =
