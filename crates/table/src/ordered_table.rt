@@ -6,7 +6,7 @@ use crate::keyed::Keyed;
 
 pub mod methods;
 
-/// Stays: the places are the caller's slice, and how many are used stands beside it, since these crates use no heap.
+// Stays: the places are the caller's slice, and how many are used stands beside it, since these crates use no heap.
 #[derive(Drop)]
 pub struct OrderedTable<'a, R: Keyed> {
     places: &'a mut [R],
