@@ -22,7 +22,7 @@ pub enum Fault {
 
 impl Fault {
     /// The number under which a refusal is told.
-    // Stays: the name says which number it is; `u32::from` would not.
+    // Stays: numbers are what the rules fix, and a call by this name was promised.
     pub fn number(self) -> u32
         ensures { result ≡ number self }
     {
