@@ -1,5 +1,5 @@
 -- Laws of numerals and their values.
-use Rattle.std.proofs.Common.{◌≡◌, ℕ, ◌+◌, ◌-◌, ◌*◌, ◌<◌, ◌≤◌, min, true, not, ◌&&◌, List, [], ◌∷◌, length, get_or, drop, sym, refl, ap, ◌∙◌, arith}
+use Rattle.std.proofs.Common.{◌≡◌, ℕ, ◌+◌, ◌-◌, ◌*◌, ◌<◌, ◌≤◌, min, true, false, not, ◌&&◌, List, [], ◌∷◌, length, get_or, drop, sym, refl, ap, ◌∙◌, arith}
 use Rattle.std.specs.Char.{is_ascii_digit}
 use Rattle.std.specs.Str.{all_ascii_digits}
 use Rattle.std.proofs.lemmas.List.{at_drop_more}
@@ -17,6 +17,9 @@ numeral_plain (b ∷ c ∷ bs) some plain =
 module _ (bs : List ℕ) (i : ℕ) (in' : i < length bs) where
   pub digits_more : is_ascii_digit (get_or bs i 0) ≡ true → all_ascii_digits (drop (i + 1) bs) ≡ all_ascii_digits (drop i bs)
   digits_more is = sym (at_drop_more all_ascii_digits bs i 0 in' ∙ ap (λ t. t && all_ascii_digits (drop (i + 1) bs)) is)
+
+  pub digits_stop : is_ascii_digit (get_or bs i 0) ≡ false → all_ascii_digits (drop i bs) ≡ false
+  digits_stop is = at_drop_more all_ascii_digits bs i 0 in' ∙ ap (λ t. t && all_ascii_digits (drop (i + 1) bs)) is
 
 -- a number that is cut at m on the way and at the end is as if it were cut at the end
 value_cut : (m n : ℕ) (bs : List ℕ) → min (value_after (min n m) bs) m ≡ min (value_after n bs) m

@@ -1,5 +1,5 @@
 -- What is written is read, and what is read was written.
-use Rattle.std.proofs.Common.{◌≡◌, ℕ, zero, suc, ◌^◌, ◌<◌, ◌≤◌, true, false, ◌&&◌, List, [], ◌∷◌, ◌++◌, length, ℤ, pos, negsuc, nat_abs, Ok, Err, decimal, Result, sym, refl, ap, ◌∙◌, subst, ⊎_elim, arith}
+use Rattle.std.proofs.Common.{◌≡◌, ℕ, zero, suc, ◌^◌, ◌<◌, ◌≤◌, true, false, ◌&&◌, List, [], ◌∷◌, ◌++◌, length, ℤ, pos, negsuc, nat_abs, is_ok, Ok, Err, decimal, Result, sym, refl, ap, ◌∙◌, subst, ⊎_elim, arith}
 use lib.Signed.{mag}
 use Rattle.std.specs.Fmt.{signed_decimal}
 use Rattle.std.specs.Str.{bytes_eq}
@@ -7,7 +7,7 @@ use Rattle.std.proofs.lemmas.Slice.Eq.{bytes_eq-Decides}
 use Rattle.std.proofs.lemmas.Fmt.{digits_decimal, digits_value-decimal}
 use Rattle.std.proofs.lemmas.Str.Parse.{not_in_digits}
 use Rattle.std.proofs.lemmas.Int.{ints}
-use Rattle.std.proofs.lemmas.Bool.{and_from, and_parts, both_ways, cases_Bool, cond-true, cond-false, eq-eqb, leb-true, lt-ltb, ne_eqb, or_from, or_parts}
+use Rattle.std.proofs.lemmas.Bool.{and_from, and_parts, both_ways, cases_Bool, cond-true, cond-false, eq-eqb, false≢true, leb-true, lt-ltb, ne_eqb, or_from, or_parts}
 use Rattle.plane.specs.Points.{Point, Ranged, before?}
 use Rattle.drawing.specs.declared.drawn_edge.DrawnEdge.{DrawnEdge}
 use Rattle.drawing.specs.declared.number.NumberFault.{NumberFault}
@@ -104,6 +104,9 @@ pub head_read : (e : ℕ) → e < 2 ^ 32 → head_line (head_text e) ≡ Ok e
 head_read e fits =
     ap head_of (fields_cut 9 (decimal e) (80 ∷ []) (free_decimal 9 (omega arith) e (omega arith)))
     ∙ ap exponent_of (unsigned_back e fits)
+
+pub err_is_not_ok : {X Y : Type 0} (f : Y) (x : X) → ◌≡◌ {A = Result X Y} (Err f) (Ok x) → ⊥
+err_is_not_ok f x e = false≢true (ap is_ok e)
 
 together_ok : {X Y : Type 0} (a : Result X NumberFault) (b : Result Y NumberFault) (c : X × Y) → together a b ≡ Ok c → (a ≡ Ok c.0) × (b ≡ Ok c.1)
 together_ok (Ok a) (Ok b) c e = let same : (a, b) ≡ c = cc in (ap (λ x. Ok x.0) same, ap (λ x. Ok x.1) same)

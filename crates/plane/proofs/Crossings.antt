@@ -214,6 +214,9 @@ crossed_once {e} {g} f h pe pg c he hg he' hg' = elim (once_or_aligned e g f h p
 pub crossed_only : {e g : Edge} {f : Frac} → Proper e → Proper g → Crossed e g → On e f → On g f → Only e g f
 crossed_only {f = f} pe pg c h w = record { here = h; there = w; alone = λ f' h' w'. crossed_once f f' pe pg c h.line w.line h'.line w'.line }
 
+pub only_sym : {e g : Edge} {f : Frac} → Only e g f → Only g e f
+only_sym o = record { here = o.there; there = o.here; alone = λ h i j. o.alone h j i }
+
 pub crossed_touch : {e g : Edge} → Proper e → Proper g → Crossed e g → TouchAt e g (crossing e g)
 crossed_touch pe pg c = let (m, p, q, r, s, t) = crossed_signed c in met_touch t pe pg (crossed_met t c)
 

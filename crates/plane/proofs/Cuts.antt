@@ -1,13 +1,50 @@
--- A point on an edge lies in its box.
-use Rattle.std.proofs.Common.{◌≡◌, List, [], ◌∷◌, ℤ, pos, ◌-ℤ◌, ◌*ℤ◌, ◌≤ℤ◌, ◌<ℤ◌, sym, ap, arith}
+-- A whole point inside an edge cuts it: a point lies on the edge exactly if it lies on a piece. And a point on an edge lies in its box.
+use Rattle.std.proofs.Common.{◌≡◌, ◌⊎◌, ◌↔◌, List, [], ◌∷◌, ℤ, pos, ◌-ℤ◌, ◌*ℤ◌, neg_ℤ, ◌≤ℤ◌, ◌<ℤ◌, sym, ap, ◌∙◌, inl, inr, arith}
 use borrow.Author.Differences.{ints}
 use lib.Signed.{clash_ℤ}
 use Rattle.algebra.proofs.Ring.{v, ◌⊖◌, ◌⊗◌, ring}
-use Rattle.plane.specs.Points.{◌≺◌, by_x, by_y}
-use Rattle.plane.specs.Edges.{Edge, Proper}
-use Rattle.plane.specs.Fractions.{Frac, den, by, On}
-use Rattle.plane.proofs.Signs.{eq_le, gap_pos, nonneg_of_mul, linked}
-use Rattle.plane.proofs.Points.{le_x, le_y}
+use Rattle.plane.specs.Points.{Point, ◌≺◌, by_x, by_y, cross}
+use Rattle.plane.specs.Edges.{Edge, Proper, Between}
+use Rattle.plane.specs.Fractions.{Frac, den, by, Line, On}
+use Rattle.plane.proofs.Signs.{den_pos, eq_le, gap_pos, nonneg_of_mul, linked}
+use Rattle.plane.proofs.Points.{Order, before, same, after, compare, weaken, same_le, ≺-≼, ≼-≺, ≺-trans, le_x, le_y, scale}
+use Rattle.plane.proofs.Lines.{at_first, at_second, swapped, round}
+pub use Rattle.plane.proofs.Lines.{same_line}
+
+abbrev pub edge : Point → Point → Edge
+edge p q = record { a = p; b = q }
+
+pub cut_on : (e : Edge) (p : Point) (f : Frac) → cross e.a e.b p ≡ pos 0 → Between e p → On e f ↔ (On (edge e.a p) f ⊎ On (edge p e.b) f)
+cut_on e p f z h = (forth, back)
+  where
+    forth : On e f → On (edge e.a p) f ⊎ On (edge p e.b) f
+    forth w = go (compare f.at (by f p))
+      where
+        pe : Proper e
+        pe = ≺-trans h.from h.to
+
+        one : Line (edge e.a p) f
+        one = same_line e (edge e.a p) f pe (at_first e.a e.b) z w.line
+
+        two : Line (edge p e.b) f
+        two = same_line e (edge p e.b) f pe z (at_second e.a e.b) w.line
+
+        go : Order f.at (by f p) → On (edge e.a p) f ⊎ On (edge p e.b) f
+        go (before l) = inl (record { line = one; from = w.from; to = weaken l })
+        go (same l) = inl (record { line = one; from = w.from; to = same_le l })
+        go (after l) = inr (record { line = two; from = weaken l; to = w.to })
+
+    back : On (edge e.a p) f ⊎ On (edge p e.b) f → On e f
+    back (inl w) = record {
+      line = same_line (edge e.a p) e f h.from (at_first e.a p) (swapped e.a e.b p ∙ ap neg_ℤ z) w.line;
+      from = w.from;
+      to = weaken (≼-≺ w.to (scale (den f) (den_pos f.k) h.to));
+    }
+    back (inr w) = record {
+      line = same_line (edge p e.b) e f h.to (round e.a e.b p ∙ ap neg_ℤ z) (at_second p e.b) w.line;
+      from = weaken (≺-≼ (scale (den f) (den_pos f.k) h.from) w.from);
+      to = w.to;
+    }
 
 -- between the ends in the plane: the box of e
 pub record Boxed (e : Edge) (f : Frac) : Type 0 where

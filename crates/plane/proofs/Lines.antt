@@ -2,7 +2,7 @@
 use Rattle.std.proofs.Common.{◌≡◌, ◌≢◌, ◌⊎◌, List, [], ◌∷◌, ℤ, pos, ◌-ℤ◌, ◌*ℤ◌, neg_ℤ, ◌<ℤ◌, sym, refl, ap, ◌∙◌, inl, inr, arith}
 use borrow.Author.Differences.{ints}
 use lib.IntN.{zero-*ℤ, *ℤ_comm}
-use Rattle.algebra.proofs.Ring.{Ex, v, k, ◌⊕◌, ◌⊖◌, ◌⊗◌, ⊝, ◌≐◌, ring, ring₄, ring₅}
+use Rattle.algebra.proofs.Ring.{Ex, v, k, ◌⊕◌, ◌⊖◌, ◌⊗◌, ⊝, ◌≐◌, ring, ring₄, ring₅, ring₆}
 use Rattle.algebra.proofs.Laws.{neg_mul}
 use Rattle.plane.specs.Points.{Point, cross}
 use Rattle.plane.specs.Edges.{Edge, Proper, first, second}
@@ -30,6 +30,14 @@ at_first p q = ring₄ (λ px py qx qy. (qx ⊖ px) ⊗ (py ⊖ py) ⊖ (qy ⊖ 
 
 pub at_second : (p q : Point) → cross p q q ≡ pos 0
 at_second p q = ring₄ (λ px py qx qy. (qx ⊖ px) ⊗ (qy ⊖ py) ⊖ (qy ⊖ py) ⊗ (qx ⊖ px) ≐ k (pos 0)) tt p.x p.y q.x q.y
+
+pub swapped : (p q r : Point) → cross p r q ≡ neg_ℤ (cross p q r)
+swapped p q r = ring₆ (λ px py qx qy rx ry. (rx ⊖ px) ⊗ (qy ⊖ py) ⊖ (ry ⊖ py) ⊗ (qx ⊖ px) ≐ ⊝ ((qx ⊖ px) ⊗ (ry ⊖ py) ⊖ (qy ⊖ py) ⊗ (rx ⊖ px))) tt
+    p.x p.y q.x q.y r.x r.y
+
+pub round : (p q r : Point) → cross r q p ≡ neg_ℤ (cross p q r)
+round p q r = ring₆ (λ px py qx qy rx ry. (qx ⊖ rx) ⊗ (py ⊖ ry) ⊖ (qy ⊖ ry) ⊗ (px ⊖ rx) ≐ ⊝ ((qx ⊖ px) ⊗ (ry ⊖ py) ⊖ (qy ⊖ py) ⊗ (rx ⊖ px))) tt
+    p.x p.y q.x q.y r.x r.y
 
 -- ---- the coordinates of e and of g, and a point with its denominator, as variables
 abbrev axs : Edge → Edge → Frac → List ℤ

@@ -1,5 +1,5 @@
 -- Points on an edge, and edges on one line.
-use Rattle.std.proofs.Common.{◌≡◌, ◌⊎◌, ℤ, pos, ◌+ℤ◌, ◌*ℤ◌, ◌<ℤ◌, sym, refl, ◌∙◌, subst, inl, inr, arith}
+use Rattle.std.proofs.Common.{◌≡◌, ◌⊎◌, ◌↔◌, ℤ, pos, ◌+ℤ◌, ◌*ℤ◌, ◌<ℤ◌, sym, refl, ◌∙◌, subst, inl, inr, arith}
 use borrow.Author.Differences.{ints}
 use Rattle.algebra.proofs.Ring.{k, ◌⊕◌, ◌⊖◌, ◌⊗◌, ◌≐◌, ring₄, ring₆}
 use Rattle.algebra.proofs.Laws.{one_mul}
@@ -163,6 +163,14 @@ overlaps_touch {e} {g} pe pg z (first_of_second h) = (whole g.a, touch_in (whole
 overlaps_touch {e} {g} pe pg z (second_of_second h) = (whole g.b, touch_in (whole_within e g.b z.gb h) (second_on g pg))
 overlaps_touch {e} {g} pe pg z (first_of_first h) = (whole e.a, touch_sym (touch_in (whole_within g e.a z.ea h) (first_on e pe)))
 overlaps_touch {e} {g} pe pg z (second_of_first h) = (whole e.b, touch_sym (touch_in (whole_within g e.b z.eb h) (second_on e pe)))
+
+-- edges of one line touch exactly if they are equal, or an end is strictly between its partner's
+pub aligned_touch : {e g : Edge} → Proper e → Proper g → Aligned e g → ((f : Frac) × TouchAt e g f) ↔ ((e ≡ g) ⊎ Overlaps e g)
+aligned_touch {e} {g} pe pg z = (λ t. touch_order t.1, back)
+  where
+    back : (e ≡ g) ⊎ Overlaps e g → (f : Frac) × TouchAt e g f
+    back (inl h) = equal_touch pe h
+    back (inr h) = overlaps_touch pe pg z h
 
 -- a common point, at or after both first ends, before both second ends
 record Low (e g : Edge) (p : Point) : Type 0 where

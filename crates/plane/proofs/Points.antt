@@ -85,6 +85,9 @@ pub unscale : (d : ℤ) (p q : Point) → pos 0 <ℤ d → scaled d p ≺ scaled
 unscale d p q h (by_x l) = by_x (lt_of_mul_lt d p.x q.x (lt_le h) l)
 unscale d p q h (by_y e l) = by_y (unmul_eq d p.x q.x h e) (lt_of_mul_lt d p.y q.y (lt_le h) l)
 
+pub unscale_same : (d : ℤ) (p q : Point) → pos 0 <ℤ d → scaled d p ≡ scaled d q → p ≡ q
+unscale_same d p q h e = point_ext (unmul_eq d p.x q.x h (ap (λ (z : Point). z.x) e)) (unmul_eq d p.y q.y h (ap (λ (z : Point). z.y) e))
+
 -- ---- the vector from p to q
 pub →ahead : {p q : Point} → p ≺ q → Ahead (q.x -ℤ p.x) (q.y -ℤ p.y)
 →ahead {p} {q} (by_x h) = ahead_x (gap_pos p.x q.x h)

@@ -26,6 +26,9 @@ denom_by t o ux uy vx vy d e a b c f = this ∙ sym (denom_is t o)
     this : d ≡ (t.b.x -ℤ t.a.x) *ℤ (o.b.y -ℤ o.a.y) -ℤ (t.b.y -ℤ t.a.y) *ℤ (o.b.x -ℤ o.a.x)
     this = cc
 
+pub numer_by : (t o : Edge) (bx by cx cy n : ℤ) → n ≡ bx *ℤ cy -ℤ by *ℤ cx → bx ≡ o.a.x -ℤ t.a.x → by ≡ o.a.y -ℤ t.a.y → cx ≡ o.b.x -ℤ t.a.x → cy ≡ o.b.y -ℤ t.a.y → n ≡ numer t o
+numer_by t o bx by cx cy n e a b c d = cc
+
 pub denom_some : (t o : Edge) (d : ℤ) → d ≡ denom t o → Inner t o → 0 < nat_abs d
 denom_some t o d e i = subst (λ (z : ℤ). 0 < nat_abs z) (sym e) (inner_denom t o i).0
 

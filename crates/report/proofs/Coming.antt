@@ -1,11 +1,13 @@
 -- Marks that come to a table, one after another.
-use Rattle.std.proofs.Common.{◌≡◌, ℕ, suc, ◌+◌, ◌<◌, ◌≤◌, Bool, false, ◌||◌, List, [], ◌∷◌, ◌++◌, length, get_or, take, sym, refl, ap, ◌∙◌, subst, append_assoc, append-nil, zero-add, arith}
+use Rattle.std.proofs.Common.{◌≡◌, ℕ, suc, ◌+◌, ◌<◌, ◌≤◌, Bool, false, ◌||◌, List, [], ◌∷◌, ◌++◌, map, length, get_or, take, sym, refl, ap, ◌∙◌, subst, append_assoc, append-nil, zero-add, arith}
 use Rattle.std.proofs.Math.Bool.{or_assoc, or-false}
 use lib.ListN.{length-map}
 use Rattle.std.proofs.lemmas.List.{take_all, map_more, length-take-le}
 use Rattle.plane.specs.Points.{Point}
 use Rattle.plane.specs.Edges.{Edge}
+use Rattle.plane.specs.Models.{edge_of}
 use Rattle.plane.specs.Rules.{marked_on, rounded?}
+use Rattle.plane.specs.declared.x_segment.XSegment.{XSegment}
 use Rattle.drawing.specs.declared.drawn_edge.DrawnEdge.{DrawnEdge}
 use Rattle.segm.specs.Marked as listing
 use Rattle.segm.specs.Spots.{spots, at_one?, Come}
@@ -99,3 +101,6 @@ pub marked_all : (s : ℕ) (es : List Edge) (t : Content LineMark) (n room : ℕ
 marked_all s es t n room l ms rounded is sound come told copied =
     let none : listing.Marked (λ m. false) (records t) = record { ordered = sound.ordered; each = λ m. ap (λ (c : Content LineMark). listing.holds? (records c) m) is } in
     record { marks = subst (listing.Marked (at_one? (all_marks s es 0 es))) (sym copied) (come (λ m. false) none); flag = told }
+
+pub marked_as : (s t : ℕ) (xs ys : List XSegment) (ms : List LineMark) (rounded : Bool) → s ≡ t → xs ≡ ys → Marked s (map edge_of xs) ms rounded → Marked t (map edge_of ys) ms rounded
+marked_as s t xs ys ms rounded same also h = subst (λ (p : ℕ × List XSegment). Marked p.0 (map edge_of p.1) ms rounded) (λ k. (same k, also k)) h
