@@ -9,7 +9,7 @@ use Rattle.std.proofs.lemmas.Bool.{and_parts, and_from}
 use Rattle.plane.specs.Points.{Point}
 use Rattle.plane.specs.Edges.{Edge}
 use Rattle.plane.specs.Rules.{In}
-use Rattle.finder.specs.Finders.{Box, in_box?, edge_at}
+use Rattle.finder.specs.Finders.{Box, zero_box, in_box?, edge_at}
 use Rattle.finder.specs.Boxes.{holds?, Inside, LeastBox, point_box, with_point, with_edge, edges_box}
 
 pub box_ext : {b c : Box} → b.left ≡ c.left → b.right ≡ c.right → b.bottom ≡ c.bottom → b.top ≡ c.top → b ≡ c
@@ -108,6 +108,10 @@ least_unique (e ∷ es) b c l k =
 -- ---- reckoned in a loop
 pub grown_more : {X : Type 0} (edge : X → Edge) (b : Box) (xs : List X) (x : X) → fold with_edge b (map edge (xs ++ (x ∷ []))) ≡ with_edge (fold with_edge b (map edge xs)) (edge x)
 grown_more edge b xs x = simp (map-append, fold-append)
+
+pub box_none : (es : List Edge) → length es ≡ 0 → zero_box ≡ edges_box es
+box_none [] h = refl
+box_none (e ∷ es) h = absurd (omega (arith, h))
 
 pub box_all : (es : List Edge) → 0 < length es → fold with_edge (point_box (edge_at es 0).a) es ≡ edges_box es
 box_all [] h = absurd (omega arith)

@@ -1,10 +1,13 @@
 -- The refusal of an edge, check by check.
-use Rattle.std.proofs.Common.{◌≡◌, ℕ, ◌<◌, ◌≤◌, Bool, true, false, cond, not, ◌&&◌, ltb, leb, [], ◌∷◌, ◌++◌, length, Some, None, Option, refl, ◌∙◌}
-use Rattle.std.proofs.lemmas.Bool.{le-leb, leb-false, lt-leb, lt-ltb, le-ltb, cond-true, cond-false, and_from, not-false}
+use Rattle.std.proofs.Common.{◌≡◌, ℕ, ◌<◌, ◌≤◌, Bool, true, false, cond, not, ◌&&◌, ltb, leb, [], ◌∷◌, ◌++◌, length, nat_abs, Some, None, Option, sym, refl, ◌∙◌, subst, ap₂}
+use Rattle.std.proofs.lemmas.Bool.{le-leb, leb-true, leb-false, lt-leb, lt-ltb, le-ltb, cond-true, cond-false, and_from, and_parts, not-false}
 use Rattle.plane.specs.Points.{Point, Ranged, before?}
+use Rattle.plane.specs.PointOf.{point_of}
 use Rattle.plane.specs.Edges.{Edge}
+use Rattle.plane.specs.declared.int_point.IntPoint.{IntPoint}
 use Rattle.plane.specs.declared.fault.Fault.{Fault}
 use Rattle.plane.specs.declared.fault.Fault.TheVariants.{EndsEqual, CoordinateOutside, EdgeOutsideBox, FinderFull, Walking, AnnouncedReached}
+use Rattle.plane.proofs.Tests.{untrue}
 use Rattle.finder.specs.Finders.{Box, Needs, Meaning, in_range?, in_box?, refusal}
 use Rattle.finder.specs.Checks.{early_refusal}
 
@@ -12,10 +15,44 @@ use Rattle.finder.specs.Checks.{early_refusal}
 pub ranged_true : (p : Point) → Ranged p → in_range? p ≡ true
 ranged_true p h = and_from _ _ (le-leb _ _ h.wide) (le-leb _ _ h.high)
 
--- ---- the checks that all finders share
-pub early_none : (walking : Bool) (announced shown : ℕ) (box : Box) (e : Edge) → walking ≡ false → shown < announced → before? e.a e.b ≡ true
-    → (in_range? e.a && in_range? e.b) ≡ true → (in_box? box e.a && in_box? box e.b) ≡ true → early_refusal walking announced shown box e ≡ None
-early_none walking announced shown box e w h o r b = let l = lt-leb _ _ h in simp (w, l, o, r, b)
+pub ranged_yes : (p : Point) → in_range? p ≡ true → Ranged p
+ranged_yes p e =
+    let h = and_parts (leb (nat_abs p.x) 524288) (leb (nat_abs p.y) 524288) e in
+    record { wide = leb-true _ _ h.0; high = leb-true _ _ h.1 }
+
+pub ranged_false : (p : Point) → ¬ Ranged p → in_range? p ≡ false
+ranged_false p n = untrue (in_range? p) (λ e. n (ranged_yes p e))
+
+pub ranged_point : (q : IntPoint) (p : Point) → point_of q ≡ p → in_range? p ≡ true
+ranged_point q p e = subst (λ z. in_range? z ≡ true) e (ranged_true (point_of q) (record { wide = q.wide; high = q.high }))
+
+-- ---- the test of two points in a box, of points that are theirs
+pub in_box_ends : (box : Box) (p q : Point) (r s : IntPoint) (b : Bool) → point_of r ≡ p → point_of s ≡ q → b ≡ (in_box? box (point_of r) && in_box? box (point_of s)) → (in_box? box p && in_box? box q) ≡ b
+in_box_ends box p q r s b e f h = ap₂ (λ x y. in_box? box x && in_box? box y) (sym e) (sym f) ∙ sym h
+
+-- ---- each check that all finders share refuses where those before it let the edge pass
+module _ (walking : Bool) (announced shown : ℕ) (box : Box) (e : Edge) where
+  pub early_walking : walking ≡ true → early_refusal walking announced shown box e ≡ Some Walking
+  early_walking w = simp w
+
+  module _ (w : walking ≡ false) where
+    pub early_reached : announced ≤ shown → early_refusal walking announced shown box e ≡ Some AnnouncedReached
+    early_reached h = let l = le-leb _ _ h in simp (w, l)
+
+    module _ (h : shown < announced) where
+      pub early_unordered : before? e.a e.b ≡ false → early_refusal walking announced shown box e ≡ Some EndsEqual
+      early_unordered n = let l = lt-leb _ _ h in simp (w, l, n)
+
+      module _ (o : before? e.a e.b ≡ true) where
+        pub early_ranged : (in_range? e.a && in_range? e.b) ≡ false → early_refusal walking announced shown box e ≡ Some CoordinateOutside
+        early_ranged n = let l = lt-leb _ _ h in simp (w, l, o, n)
+
+        module _ (r : (in_range? e.a && in_range? e.b) ≡ true) where
+          pub early_outside : (in_box? box e.a && in_box? box e.b) ≡ false → early_refusal walking announced shown box e ≡ Some EdgeOutsideBox
+          early_outside n = let l = lt-leb _ _ h in simp (w, l, o, r, n)
+
+          pub early_none : (in_box? box e.a && in_box? box e.b) ≡ true → early_refusal walking announced shown box e ≡ None
+          early_none b = let l = lt-leb _ _ h in simp (w, l, o, r, b)
 
 -- ---- the refusal by all checks
 -- the checks in their order, and what stands behind the last

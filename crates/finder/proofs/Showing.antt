@@ -7,7 +7,7 @@ use Rattle.plane.specs.Rules.{In}
 use Rattle.plane.specs.declared.fault.Fault.{Fault}
 use Rattle.plane.specs.declared.fault.Fault.TheVariants.{FinderFull}
 use Rattle.plane.proofs.Tests.{before_true}
-use Rattle.finder.specs.Finders.{Box, Needs, Meaning, counted, blank_edge, edge_at, refusal, show_answer, show_after, with_shown}
+use Rattle.finder.specs.Finders.{Box, Needs, Meaning, counted, started, blank_edge, edge_at, refusal, show_answer, show_after, with_shown}
 use Rattle.finder.specs.Checks.{early_refusal}
 use Rattle.finder.specs.Boxes.{LeastBox}
 use Rattle.finder.specs.Filling.{filling, refusal_at, AcceptedBelow, Filled, Suitable, ByNeed}
@@ -21,6 +21,11 @@ at_in (e ∷ es) (suc k) h = inr (at_in es k (omega arith))
 -- the edge at k of records' edges
 pub edge_at_map : {X : Type 0} (f : X → Edge) (xs : List X) (k : ℕ) (x : X) → k < length xs → x ≡ get_or xs k x → f x ≡ edge_at (map f xs) k
 edge_at_map f xs k x h e = ap f e ∙ sym (get_or-map f xs k x blank_edge h)
+
+-- a finder just started
+pub started_filling : (m m₀ : Meaning) (b : Box) (n k : ℕ) → m ≡ started b n m₀ → k ≡ n → m ≡ filling m.box k [] m.capacity
+started_filling m m₀ b n k e s =
+    subst (λ x. x ≡ filling x.box k [] x.capacity) (sym e) (ap (λ j. filling b j [] m₀.capacity) (sym s))
 
 pub filled_at : (need : Needs) (cap cap' : ℕ) (b b' : Box) (es : List Edge) (m : Meaning) (r r' : Result (Unit {0}) Fault) → cap ≡ cap' → b ≡ b' → r ≡ r' → Filled need cap b es m r → Filled need cap' b' es m r'
 filled_at need cap cap' b b' es m r r' c e f h =
