@@ -6,7 +6,7 @@ use finder::all_pairs::AllPairs;
 use finder::filling::{extent_of, fill};
 use finder::finding::Finder;
 use finder::plain_edge::PlainEdge;
-use finder::taking::take_all;
+use finder::taking::call_at_all;
 use grid::fragment::Fragment;
 use grid::fragment_buffer::FragmentBuffer;
 use plane::touch_type::TouchType;
@@ -101,7 +101,7 @@ struct Found {
 fn walk<F: Finder>(edges: &[XSegment], finder: &mut F, seen: &mut [bool]) -> anyhow::Result<Found> {
     fill(edges, extent_of(edges), finder).map_err(|_| anyhow!("the finder refuses an edge"))?;
     let mut touches: usize = 0;
-    let pairs = take_all(finder, |i, j| {
+    let pairs = call_at_all(finder, |i, j| {
         if touch_anew(edges, i, j, seen) {
             touches = touches.saturating_add(1);
         }

@@ -1,7 +1,6 @@
-use Rattle.std.proofs.Common.{[], ◌∷◌, ◌++◌, ◌∙◌, of_calls}
-use Rattle.std.proofs.lemmas.Fn.{FoldsTo-push}
+use Rattle.std.proofs.Common.{[], ◌∷◌, ◌++◌, ◌∙◌}
 use Rattle.finder.specs.Finders.{Pair}
-use Rattle.finder.proofs.Walking.{came_more, came_all, number_more}
+use Rattle.finder.proofs.Walking.{came_more, came_all, number_more, visits_more}
 use Rattle.finder.proofs.taking.take_all.Goals as goal
 
 pub loop-i-preserved : goal.loop-i-preserved
@@ -10,10 +9,9 @@ loop-i-preserved g c =
     let v = c.loop-i.invariant in
     let p : Pair = (c.in-Some.i, c.in-Some.j) in
     record {
-      callable = search of_calls;
       done = v.done ++ (p ∷ []);
       came = came_more F.walks (F.meaning c.loop-i.finder) (F.meaning c.next.new.self) c.next.result c.next.ensures (F.meaning c.args.finder.now) v.done v.came p c.in-Some.is;
-      visited = FoldsTo-push _ c.args.visit v.done c.loop-i.visit p c.visit.new.self v.visited c.visit.ensures;
+      visited = visits_more g.V.PairVisitor.visits c.args.visitor.now c.loop-i.visitor c.visit.new.self v.done p v.visited c.visit.ensures;
       counted = c.saturating_add-taken.ensures ∙ number_more v.done p c.loop-i.taken v.counted;
     }
 
@@ -22,4 +20,4 @@ returns g c =
     let F = g.F.Finder in
     let v = c.loop-i.invariant in
     let all = came_all F.walks (F.meaning c.loop-i.finder) (F.meaning c.next.new.self) c.next.result c.next.ensures (F.meaning c.args.finder.now) v.done v.came c.in_default.is in
-    (c.loop-i.visit, record { took = record { pairs = v.done; allowed = all.0; number = v.counted; leaves = all.1 }; visited = v.visited })
+    record { took = record { pairs = v.done; allowed = all.0; number = v.counted; leaves = all.1 }; visited = v.visited }
