@@ -2,3 +2,4 @@ pub mod Joining
 pub mod Stops
 pub mod PlacingLoops
 pub mod MarkRows
+pub mod Slices

@@ -1,19 +1,19 @@
 -- Placing the marks of an edge one group of equal x after another.
-use Rattle.std.proofs.Common.{◌≡◌, ℕ, suc, ◌+◌, ◌-◌, ◌<◌, ◌≤◌, Bool, true, false, not, cond, List, [], ◌∷◌, ◌++◌, map, reverse, length, get_or, take, drop, Bor, Some, None, Option, MatchOption, IfSome, ℤ, nat_abs, sym, refl, ap, ◌∙◌, subst, ap₂, arith, take-add, w32, to_z, of_z}
+use Rattle.std.proofs.Common.{◌≡◌, ℕ, suc, ◌+◌, ◌-◌, ◌<◌, ◌≤◌, Bool, true, false, not, cond, List, [], ◌∷◌, ◌++◌, map, reverse, length, get_or, take, drop, Bor, Some, None, Option, MatchOption, IfSome, ℤ, nat_abs, sym, refl, ap, ◌∙◌, subst, ap₂, arith, take-append-drop, take-add, w32, to_z, of_z}
 use mathlib.Core.List.{reverse_aux}
 use borrow.Author.Differences.{ints}
 use lib.Signed.{lt_z}
 use borrow.Rule.Slice.PartMut.{put_mid}
 use Rattle.std.specs.List.{between, prefix_len, HoldsAt}
 use Rattle.std.proofs.Math.Numerals.{one-add}
-use Rattle.std.proofs.lemmas.List.Edits.{length-between}
-use Rattle.std.proofs.lemmas.List.{append-nil, append_assoc, drop_all, take_all, drop_more, drop-drop, get_or-drop, take_rest, length-drop, length-reverse, map-append, map_more, reverse-reverse}
+use Rattle.std.proofs.lemmas.List.Edits.{split_between, length-between}
+use Rattle.std.proofs.lemmas.List.{append-nil, append_assoc, append_cancel_left, drop_all, take_all, drop_more, drop-drop, get_or-drop, take_rest, length-drop, length-reverse, length-map, map-append, map_more, reverse-reverse}
 use Rattle.std.proofs.lemmas.Slice.{take-put_mid, drop-put_mid}
 use Rattle.std.proofs.lemmas.Int.{to_z-of_z}
 use Rattle.plane.specs.declared.int_point.IntPoint.{IntPoint}
 use Rattle.segm.specs.Marks.{blank_mark}
 use Rattle.segm.specs.declared.line_mark.LineMark.{LineMark}
-use Rattle.rounds.specs.Placing.{last_y, settled, place, place_all}
+use Rattle.rounds.specs.Placing.{last_y, settled, place, place_all, placed}
 use Rattle.cutting.specs.Cutting.{point_at}
 
 -- ---- lists of points
@@ -98,6 +98,10 @@ group_from t k n is =
 pub group_within : (t : List LineMark) (k n : ℕ) → k ≤ length t → n ≤ length (take (length t - k) (drop k t)) → k + n ≤ length t
 group_within t k n le within = omega (arith, ap length (take_rest t k), length-drop k t)
 
+-- a list from k on, up to another place and from there on
+pub between_rest : {X : Type 0} (t : List X) (k to : ℕ) → k ≤ to → drop k t ≡ between k to t ++ drop to t
+between_rest t k to le = append_cancel_left (take k t) (drop k t) (between k to t ++ drop to t) (take-append-drop k t ∙ split_between t k to le)
+
 -- what the group between two places becomes: reversed if the test holds
 pub record Turned (test : Bool) (t u : List LineMark) (k to : ℕ) : Type 0 where
   pub front : take to u ≡ take k t ++ cond test (reverse (between k to t)) (between k to t)
@@ -173,3 +177,16 @@ module _ (a end : ℤ) (e : List LineMark) where
 -- a coordinate is the number that its bits stand for
 pub y_kept : (p : IntPoint) → to_z w32 (of_z w32 p.y) ≡ p.y
 y_kept p = let h : nat_abs p.y ≤ 524288 = p.high in to_z-of_z w32 p.y (omega (arith, ints))
+
+-- no more than one point is placed already
+placed_few : (a b : IntPoint) (l : List IntPoint) → length l ≤ 1 → placed a b l ≡ l
+placed_few a b [] le = refl
+placed_few a b (p ∷ []) le = go (lt_z b.y a.y)
+  where
+    go : (test : Bool) → cond test (p ∷ []) (p ∷ []) ≡ p ∷ []
+    go true = refl
+    go false = refl
+placed_few a b (p ∷ q ∷ l) le = absurd (omega arith)
+
+pub unplaced : (a b : IntPoint) (t u : List LineMark) → length t ≤ 1 → u ≡ t → map point_at u ≡ placed a b (map point_at t)
+unplaced a b t u le e = ap (map point_at) e ∙ sym (placed_few a b (map point_at t) (omega (arith, length-map t point_at)))

@@ -1,11 +1,11 @@
 //! Edges cut at their marks, and the pieces joined into a table.
-ghost use Rattle.std.specs.Prelude.{◌≡◌, ◌==◌, [], ◌∷◌, ◌++◌, map};
+ghost use Rattle.std.specs.Prelude.{◌≡◌, ◌==◌, ◌≤◌, [], ◌∷◌, ◌++◌, map, IfOk};
 ghost use Rattle.std.specs.List.{prefix_len};
 ghost use Rattle.table.specs.Listings.{Ordered};
-ghost use Rattle.table.specs.Tables.{content_of};
+ghost use Rattle.table.specs.Tables.{content_of, places_name};
 ghost use Rattle.segm.specs.MarkKind.{mark_kind};
 ghost use Rattle.rounds.specs.Pieces.{cut, cut_from, pieces};
-ghost use Rattle.cutting.specs.Cutting.{Brings, Joins, Keeps, point_at};
+ghost use Rattle.cutting.specs.Cutting.{Brings, BringsIn, Joins, Keeps, point_at};
 
 use crate::placing::place_marks;
 use plane::fault::Fault;
@@ -14,14 +14,35 @@ use segm::segment::Segment;
 use segm::winding::WindingCount;
 use table::ordered_table::OrderedTable;
 
-/// Cuts every edge at its marks, and joins all pieces into a table. The marks are in order.
+/// Cuts every edge at its marks, and joins all pieces into the first places of a slice, which are empty at first: at most `room` are
+/// used. The number of edges then; the marks are in order.
 pub fn cut_edges<C: WindingCount>(
+    edges: &[Segment<C>],
+    marks: &mut [LineMark],
+    list: &mut [Segment<C>],
+    room: usize,
+) -> Result<usize, Fault>
+    ensures pieces { Ordered mark_kind marks.old → BringsIn C.WindingCount.kind (cut_from C.WindingCount.kind 0 marks.old edges.now) room list.old 0 list.new result }
+    ensures within { IfOk result (λ n. n ≤ room) }
+{
+    // No slice has more room than places; where there is nothing to join, none is asked for.
+    if room > list.len() && !edges.is_empty() {
+        return Err(Fault::PiecesFull);
+    }
+    let mut table = OrderedTable::open(list, room);
+    cut_into(edges, marks, &mut table)?;
+    Ok(table.len())
+}
+
+/// Cuts every edge at its marks, and joins all pieces into a table. The marks are in order.
+pub fn cut_into<C: WindingCount>(
     edges: &[Segment<C>],
     marks: &mut [LineMark],
     list: &mut OrderedTable<'_, Segment<C>>,
 ) -> Result<(), Fault>
     ensures pieces { Ordered mark_kind marks.old → Brings C.WindingCount.kind (cut_from C.WindingCount.kind 0 marks.old edges.now) (content_of list.old) (content_of list.new) result }
     ensures kept { Keeps (content_of list.old) (content_of list.new) }
+    ensures same { places_name list.new ≡ places_name list.old }
 {
     let mut rest = marks;
     for (i, edge) in edges.iter().enumerate() {
@@ -46,7 +67,8 @@ fn cut_edge<C: WindingCount>(
     marks: &mut [LineMark],
     list: &mut OrderedTable<'_, Segment<C>>,
 ) -> Result<(), Fault>
-    ensures { Joins C.WindingCount.kind (cut C.WindingCount.kind edge (map point_at marks.old)) (content_of list.old) (content_of list.new) result }
+    ensures joins { Joins C.WindingCount.kind (cut C.WindingCount.kind edge (map point_at marks.old)) (content_of list.old) (content_of list.new) result }
+    ensures same { places_name list.new ≡ places_name list.old }
 {
     // One mark alone, or none, is in order.
     if marks.len() > 1 {
@@ -61,7 +83,8 @@ fn join_pieces<C: WindingCount>(
     stops: &[LineMark],
     list: &mut OrderedTable<'_, Segment<C>>,
 ) -> Result<(), Fault>
-    ensures { Joins C.WindingCount.kind (pieces C.WindingCount.kind edge.count edge.a (map point_at stops.now ++ (edge.b ∷ []))) (content_of list.old) (content_of list.new) result }
+    ensures joins { Joins C.WindingCount.kind (pieces C.WindingCount.kind edge.count edge.a (map point_at stops.now ++ (edge.b ∷ []))) (content_of list.old) (content_of list.new) result }
+    ensures same { places_name list.new ≡ places_name list.old }
 {
     let Segment { a, b, count } = edge;
     let mut from = a;
@@ -77,7 +100,8 @@ fn join_piece<C: WindingCount>(
     piece: Segment<C>,
     list: &mut OrderedTable<'_, Segment<C>>,
 ) -> Result<(), Fault>
-    ensures { Joins C.WindingCount.kind (piece ∷ []) (content_of list.old) (content_of list.new) result }
+    ensures joins { Joins C.WindingCount.kind (piece ∷ []) (content_of list.old) (content_of list.new) result }
+    ensures same { places_name list.new ≡ places_name list.old }
 {
     list.insert(piece).map_err(|_| Fault::PiecesFull)
 }

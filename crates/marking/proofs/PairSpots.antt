@@ -26,8 +26,11 @@ use Rattle.marking.specs.Gathering.{AllProper, Noted, PairsMarked}
 
 -- ---- the edge at a number
 module _ {C : Type 0} (xs : List (Segment C)) (i : ℕ) (x : Segment C) (h : i < length xs) (is : x ≡ get_or xs i x) where
+  pub proper_at : AllProper xs → Proper (ends_of x)
+  proper_at proper = proper x (subst (λ (y : Segment C). In y xs) (sym is) (in_at xs i x h))
+
   pub left_out : ¬ Proper (ends_of x) → ¬ AllProper xs
-  left_out turned proper = turned (proper x (subst (λ (y : Segment C). In y xs) (sym is) (in_at xs i x h)))
+  left_out turned proper = turned (proper_at proper)
 
   pub at_number : (e : XSegment) → edge_of e ≡ ends_of x → edge_of e ≡ edge_at (map ends_of xs) i
   at_number e same = same ∙ edge_at_map ends_of xs i x h is

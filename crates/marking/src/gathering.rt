@@ -1,10 +1,11 @@
 //! The marks of all pairs that a finder gives.
-ghost use Rattle.std.specs.Prelude.{◌≡◌, ◌<◌, false, [], map, length, IfOk, MatchResult};
+ghost use Rattle.std.specs.Prelude.{◌≡◌, ◌-◌, ◌<◌, ◌≤◌, false, [], map, length, take, drop, replicate, IfOk, MatchResult};
 ghost use Rattle.plane.specs.Rules.{rounded?};
 ghost use Rattle.finder.specs.Finders.{edge_at};
+ghost use Rattle.segm.specs.Marks.{blank_mark};
 ghost use Rattle.segm.specs.Segments.{ends_of};
 ghost use Rattle.segm.specs.Spots.{SameSize};
-ghost use Rattle.table.specs.Tables.{content_of, records_of};
+ghost use Rattle.table.specs.Tables.{content_of, places_name, records_of};
 ghost use Rattle.rounds.specs.Marks.{MoreMarks};
 ghost use Rattle.rounds.specs.Spots.{pair_spots};
 ghost use Rattle.history.specs.Sheets.{Page, Sound, mark_places};
@@ -24,8 +25,32 @@ use segm::segment::Segment;
 use segm::winding::WindingCount;
 use table::ordered_table::{NoRoom, OrderedTable};
 
-/// Shows the edges to a finder, and marks the crossings of all pairs that it gives in an empty table.
+/// Shows the edges to a finder, and marks the crossings of all pairs that it gives in the first places of a slice. All other places are
+/// blank then, and where it is refused all are.
 pub fn gather<C: WindingCount, F: Finder>(
+    edges: &[Segment<C>],
+    finder: &mut F,
+    marks: &mut [LineMark],
+    radius: SnapRadius,
+) -> Result<RoundAnswer, Fault>
+    ensures marks { (s : Page C) → Sound C.WindingCount.kind s → s.edges ≡ edges.now → s.exponent ≡ radius.current → length marks.old ≡ mark_places s.lengths → MatchResult result (λ a. Gathered F.Finder.walks (use_of F.Finder.need (F.Finder.meaning finder.old)) s (take a.marks marks.new) a) (λ f. Unpieced (use_of F.Finder.need (F.Finder.meaning finder.old)) s f) }
+    ensures within { IfOk result (λ a. a.marks ≤ length marks.old) }
+    ensures blank { MatchResult result (λ a. drop a.marks marks.new ≡ replicate (length marks.old - a.marks) blank_mark) (λ _. marks.new ≡ replicate (length marks.old) blank_mark) }
+    ensures capacity { (F.Finder.meaning finder.new).capacity ≡ (F.Finder.meaning finder.old).capacity }
+{
+    let room = marks.len();
+    let mut table = OrderedTable::open(marks, room);
+    match gather_into(edges, finder, &mut table, radius) {
+        Ok(answer) => Ok(answer),
+        Err(fault) => {
+            table.clear();
+            Err(fault)
+        }
+    }
+}
+
+/// Shows the edges to a finder, and marks the crossings of all pairs that it gives in an empty table.
+pub fn gather_into<C: WindingCount, F: Finder>(
     edges: &[Segment<C>],
     finder: &mut F,
     marks: &mut OrderedTable<'_, LineMark>,
@@ -34,6 +59,7 @@ pub fn gather<C: WindingCount, F: Finder>(
     ensures marks { (s : Page C) → Sound C.WindingCount.kind s → s.edges ≡ edges.now → s.exponent ≡ radius.current → records_of marks.old ≡ [] → marks.old.room ≡ mark_places s.lengths → MatchResult result (λ a. Gathered F.Finder.walks (use_of F.Finder.need (F.Finder.meaning finder.old)) s (records_of marks.new) a) (λ f. Unpieced (use_of F.Finder.need (F.Finder.meaning finder.old)) s f) }
     ensures number { IfOk result (λ a. a.marks ≡ length (records_of marks.new)) }
     ensures size { SameSize (content_of marks.old) (content_of marks.new) }
+    ensures same { places_name marks.new ≡ places_name marks.old }
     ensures capacity { (F.Finder.meaning finder.new).capacity ≡ (F.Finder.meaning finder.old).capacity }
 {
     fill(edges, extent_of(edges), finder)?;
@@ -52,6 +78,7 @@ fn mark_pairs<C: WindingCount, F: Finder>(
     ensures marks { AllProper edges.now → records_of marks.old ≡ [] → MatchResult result (λ a. PairsMarked F.Finder.walks (F.Finder.meaning finder.old) (F.Finder.meaning finder.new) radius.current (map ends_of edges.now) (records_of marks.new) a) (λ _. MoreMarks radius.current (map ends_of edges.now) marks.old.room) }
     ensures number { IfOk result (λ a. a.marks ≡ length (records_of marks.new)) }
     ensures size { SameSize (content_of marks.old) (content_of marks.new) }
+    ensures same { places_name marks.new ≡ places_name marks.old }
     ensures capacity { (F.Finder.meaning finder.new).capacity ≡ (F.Finder.meaning finder.old).capacity }
 {
     let mut is_rounded = false;
@@ -80,6 +107,7 @@ fn mark_pair<C: WindingCount>(
     ensures notes { AllProper edges.now → Notes (pair_spots radius.current (map ends_of edges.now) (i, j)) (content_of marks.old) (content_of marks.new) result }
     ensures flag { AllProper edges.now → IfOk result (λ told. told ≡ rounded? (edge_at (map ends_of edges.now) i) (edge_at (map ends_of edges.now) j) radius.current) }
     ensures size { SameSize (content_of marks.old) (content_of marks.new) }
+    ensures same { places_name marks.new ≡ places_name marks.old }
 {
     let (Ok(first), Ok(second)) = (XSegment::try_from(edges[i]), XSegment::try_from(edges[j]))
     else {

@@ -6,9 +6,9 @@ ghost use Rattle.segm.specs.Marked.{Marked, MarksDetermine, with_mark};
 ghost use Rattle.segm.specs.SegmentKind.{segment_kind};
 ghost use Rattle.segm.specs.Spots.{Come, Crowded, SameSize, spots};
 ghost use Rattle.segm.specs.declared.line_mark.LineMark.{LineMark as Mark};
-ghost use Rattle.std.specs.Prelude.{Bool, OnErr, OnOk};
+ghost use Rattle.std.specs.Prelude.{◌≡◌, Bool, OnErr, OnOk};
 ghost use Rattle.table.specs.Contents.{Answers};
-ghost use Rattle.table.specs.Tables.{content_of, records_of};
+ghost use Rattle.table.specs.Tables.{content_of, places_name, records_of};
 
 use crate::line_mark::LineMark;
 use crate::segment::Segment;
@@ -24,6 +24,7 @@ pub fn join_segment<C: WindingCount>(
     ensures answer { Answers (segment_kind C.WindingCount.kind) s (content_of edges.old) (content_of edges.new) result }
     ensures adds { OnOk result (Adds C.WindingCount.kind s (records_of edges.old) (records_of edges.new)) }
     ensures determined { CountsDetermine C.WindingCount.kind }
+    ensures same { places_name edges.new ≡ places_name edges.old }
 {
     edges.insert(s)
 }
@@ -33,6 +34,7 @@ pub fn join_mark(marks: &mut OrderedTable<'_, LineMark>, m: LineMark) -> Result<
     ensures answer { Answers mark_kind m (content_of marks.old) (content_of marks.new) result }
     ensures marked { OnOk result ((P : Mark → Bool) → Marked P (records_of marks.old) → Marked (with_mark m P) (records_of marks.new)) }
     ensures determined { MarksDetermine }
+    ensures same { places_name marks.new ≡ places_name marks.old }
 {
     marks.insert(m)
 }
@@ -46,6 +48,7 @@ pub fn join_marks(
     ensures marked { OnOk result (Come (spots index (points_of points)) (records_of marks.old) (records_of marks.new)) }
     ensures refused { OnErr result (Crowded (spots index (points_of points)) (records_of marks.old) marks.old.room) }
     ensures size { SameSize (content_of marks.old) (content_of marks.new) }
+    ensures same { places_name marks.new ≡ places_name marks.old }
 {
     match points {
         EdgeMarks::Zero => Ok(()),

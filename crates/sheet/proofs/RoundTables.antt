@@ -1,7 +1,7 @@
 -- A round over the tables, from the marks that were gathered and the pieces that were joined.
-use Rattle.std.proofs.Common.{◌≡◌, ℕ, ◌+◌, ◌<◌, ◌≤◌, false, leb, List, [], ◌∷◌, length, take, sym, refl, ap, ◌∙◌, subst, arith}
+use Rattle.std.proofs.Common.{◌≡◌, ℕ, ◌+◌, ◌<◌, ◌≤◌, false, leb, List, [], ◌∷◌, ◌++◌, ◌-◌, length, take, drop, replicate, sym, refl, ap, ◌∙◌, subst, arith}
 use lib.ListN.{length-map, length-replicate}
-use Rattle.std.proofs.lemmas.List.{length-take-le}
+use Rattle.std.proofs.lemmas.List.{length-take-le, drop-replicate, replicate-append-replicate}
 use Rattle.std.proofs.lemmas.Bool.{leb-false}
 use Rattle.table.specs.Contents as table
 use Rattle.table.specs.Contents.{Content, TookOver, records}
@@ -11,7 +11,7 @@ use Rattle.plane.specs.declared.fault.Fault.TheVariants.{PiecesFull}
 use Rattle.finder.specs.Finders.{Walks}
 use Rattle.segm.specs.Counts.{CountKind}
 use Rattle.segm.specs.Segments.{ends_of, blank_segment}
-use Rattle.segm.specs.MarkKind.{mark_kind}
+use Rattle.segm.specs.Marks.{blank_mark}
 use Rattle.segm.specs.SegmentKind.{segment_kind}
 use Rattle.segm.specs.Balance.{count_at, Counting}
 use Rattle.segm.specs.declared.line_mark.LineMark.{LineMark}
@@ -138,12 +138,25 @@ module _ {C : Type 0} (K : CountKind C) (walks : Walks) (u : Use) (s : Page C) (
           let r = lies.edge_room in let w = lies.spare_room in
           omega arith
 
--- no more marks than the room of their table
-pub few_marks : (before after : Content LineMark) (n a : ℕ) → table.Sound mark_kind after → after.room ≡ before.room → before.room ≡ n → a ≡ length (records after) → a ≤ n
-few_marks before after n a sound same room many =
-    let f = sound.fits in let t = sound.roomy in
-    let l : length (records after) ≡ after.used = length-take-le after.used after.places (omega arith) in
-    omega arith
+-- ---- the mark table ms, of which the first p places may be used
+module _ (ms back : List LineMark) (p : ℕ) (blank : ms ≡ replicate (length ms) blank_mark) (long : length back + p ≡ length ms) (behind : back ≡ drop p ms) where
+  back_blank : back ≡ replicate (length ms - p) blank_mark
+  back_blank = behind ∙ subst (λ (xs : List LineMark). drop p xs ≡ replicate (length ms - p) blank_mark) (sym blank) (drop-replicate p (length ms) blank_mark)
+
+  joined : (k : ℕ) → k ≡ p → (xs : List LineMark) → xs ≡ replicate k blank_mark → xs ++ back ≡ replicate (length ms) blank_mark
+  joined k is xs front =
+      (λ i. front i ++ back_blank i) ∙ replicate-append-replicate k (length ms - p) blank_mark ∙ ap (λ (n : ℕ). replicate n blank_mark) (omega (arith, is, long))
+
+  -- nothing of them was used
+  pub blank_unused : (ns : List LineMark) (k : ℕ) → ns ≡ replicate k blank_mark → k ≡ p → ns ++ back ≡ replicate (length ms) blank_mark
+  blank_unused ns k none is = joined k is ns none
+
+  -- the first a of them were used, and are blank again
+  pub blank_used : (xs rest ns : List LineMark) (a m n : ℕ) → m ≡ p → a ≤ m → rest ≡ drop a ns → drop a ns ≡ replicate (m - a) blank_mark → xs ≡ replicate n blank_mark → n ≡ a
+      → (xs ++ rest) ++ back ≡ replicate (length ms) blank_mark
+  blank_used xs rest ns a m n is within own free again used =
+      let whole : xs ++ rest ≡ replicate (n + (m - a)) blank_mark = (λ i. again i ++ (own ∙ free) i) ∙ replicate-append-replicate n (m - a) blank_mark in
+      joined (n + (m - a)) (omega (arith, is, within, used)) (xs ++ rest) whole
 
 -- a table that lists nothing yet
 pub pieced_none : {C : Type 0} (K : CountKind C) (t : Content (Segment C)) → t.used ≡ 0 → Pieced K [] t

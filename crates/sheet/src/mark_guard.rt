@@ -1,4 +1,4 @@
-//! The mark table during a round: its end blanks it, whatever the round comes to.
+//! The marks that a round has made: its end blanks them, whatever the round comes to.
 ghost use Rattle.std.specs.Prelude.{◌≡◌, length, replicate};
 ghost use Rattle.segm.specs.Marks.{blank_mark};
 

@@ -8,7 +8,7 @@ ghost use Rattle.sheet.specs.Rounding.{Came, Lies, page_after};
 ghost use Rattle.table.specs.Tables.{content_of, records_of};
 
 use crate::mark_guard::MarkGuard;
-use cutting::pieces::cut_edges;
+use cutting::pieces::cut_into;
 use finder::finding::Finder;
 use history::answers::RoundAnswer;
 use marking::gathering::gather;
@@ -30,20 +30,23 @@ pub(crate) fn round_tables<C: WindingCount, F: Finder>(
     radius: SnapRadius,
     finder: &mut F,
 ) -> Result<RoundAnswer, Fault>
+    requires { marks.old ≡ replicate (length marks.old) blank_mark }
     ensures round { (s : Page C) → Lies C.WindingCount.kind s (content_of edges.old) (content_of spare.old) marks.old radius.current → MatchResult result (λ a. RoundDone C.WindingCount.kind (use_of F.Finder.need (F.Finder.meaning finder.old)) s (page_after s (records_of edges.new) a) a × Lies C.WindingCount.kind (page_after s (records_of edges.new) a) (content_of edges.new) (content_of spare.new) marks.old (page_after s (records_of edges.new) a).exponent × Came F.Finder.walks s a) (λ f. RoundRefused (use_of F.Finder.need (F.Finder.meaning finder.old)) s f × (content_of edges.new ≡ content_of edges.old) × (content_of spare.new ≡ content_of spare.old)) }
     ensures marks { marks.new ≡ replicate (length marks.old) blank_mark }
     ensures capacity { (F.Finder.meaning finder.new).capacity ≡ (F.Finder.meaning finder.old).capacity }
 {
-    let guard = MarkGuard { marks };
-    let mut table = OrderedTable::open(guard.marks, MOST_MARKS);
-    let answer = gather(edges.records(), finder, &mut table, radius)?;
+    let (usable, _) = marks.split_at_mut(marks.len().min(MOST_MARKS));
+    // Where it is refused, all places are blank again.
+    let answer = gather(edges.records(), finder, usable, radius)?;
+    let (used, _) = usable.split_at_mut(answer.marks);
+    let guard = MarkGuard { marks: used };
     if !edges.has_room_for(answer.marks) {
         return Err(Fault::PiecesFull);
     }
     if answer.marks == 0 {
         return Ok(answer);
     }
-    cut_edges(edges.records(), table.into_records(), spare)?;
+    cut_into(edges.records(), guard.marks, spare)?;
     edges.take_over(spare).map_err(|_| Fault::PiecesFull)?;
     Ok(answer)
 }

@@ -1,6 +1,6 @@
 //! How records move within the places of a table.
 // Stays: a slice and how much of it is used, since no table is sound while its records move.
-ghost use Rattle.std.specs.Prelude.{◌≡◌, ℕ, ◌+◌, ◌-◌, ◌<◌, ◌≤◌, ◌∷◌, length, take, drop, replicate, MatchResult};
+ghost use Rattle.std.specs.Prelude.{◌≡◌, ℕ, ◌+◌, ◌-◌, ◌<◌, ◌≤◌, ◌∷◌, length, take, drop, replicate, MatchOption, MatchResult};
 ghost use Rattle.std.specs.List.{insert, remove};
 ghost use Rattle.table.specs.Contents.{Came, Refused, Replaced, content};
 ghost use Rattle.table.specs.Search.{Searched};
@@ -92,6 +92,17 @@ pub(crate) fn replace<R: Keyed>(table: &mut [R], used: usize, records: &[R])
     if count < used {
         blank_all(&mut table[count..used]);
     }
+}
+
+/// Brings r to its place among the first `used` records. The number of records then, or none where a new key finds no room.
+pub fn insert<R: Keyed>(table: &mut [R], used: usize, room: usize, r: R) -> Option<usize>
+    ensures { MatchOption result (Refused R.Keyed.kind r (content table.old used room) (content table.new used room)) (λ m. Came R.Keyed.kind r (content table.old used room) (content table.new m room)) }
+{
+    // A sound table never stops here.
+    if used > room || room > table.len() {
+        return None;
+    }
+    bring(table, used, room, r).ok()
 }
 
 /// Every place blank.

@@ -2,7 +2,7 @@
 ghost use Rattle.std.specs.Prelude.{◌≡◌, ◌<◌, ◌≤◌, min, length, MatchOption, MatchResult, nat_le, ◌+◌, slice_index_or};
 ghost use Rattle.table.specs.Contents.{Answers, TookOver, unused};
 ghost use Rattle.table.specs.Laws.{ListingLaws};
-ghost use Rattle.table.specs.Tables.{content_of, records_of};
+ghost use Rattle.table.specs.Tables.{content_of, places_name, records_of};
 
 use crate::keyed::Keyed;
 use crate::ordered_table::{NoRoom, OrderedTable};
@@ -13,6 +13,7 @@ impl<'a, R: Keyed> OrderedTable<'a, R> {
     pub fn open(places: &'a mut [R], room: usize) -> OrderedTable<'a, R>
         ensures content { content_of result ≡ unused R.Keyed.kind (length places.old) (min room (length places.old)) }
         ensures laws { ListingLaws R.Keyed.kind }
+        ensures same { places_name result ≡ places.entry.ghost_name }
     {
         blank_all(places);
         let room = room.min(places.len());
@@ -53,7 +54,8 @@ impl<'a, R: Keyed> OrderedTable<'a, R> {
 
     /// Brings r to its place: joined with the record that has its key, or at a place of its own.
     pub fn insert(&mut self, r: R) -> Result<(), NoRoom>
-        ensures { Answers R.Keyed.kind r (content_of self.old) (content_of self.new) result }
+        ensures answer { Answers R.Keyed.kind r (content_of self.old) (content_of self.new) result }
+        ensures same { places_name self.new ≡ places_name self.old }
     {
         let n = bring(self.places, self.used, self.room, r)?;
         self.used = n;
@@ -62,7 +64,8 @@ impl<'a, R: Keyed> OrderedTable<'a, R> {
 
     /// No record is left, and every place is blank.
     pub fn clear(&mut self)
-        ensures { content_of self.new ≡ unused R.Keyed.kind (length self.old.places.now) self.old.room }
+        ensures content { content_of self.new ≡ unused R.Keyed.kind (length self.old.places.now) self.old.room }
+        ensures same { places_name self.new ≡ places_name self.old }
     {
         blank_all(&mut self.places[..self.used]);
         self.used = 0;

@@ -1,70 +1,20 @@
--- What one edge after another brings.
-use Rattle.std.proofs.Common.{◌≡◌, ◌==◌, map, take, arith}
-use Rattle.std.proofs.lemmas.List.{take_all}
-use Rattle.std.proofs.lemmas.List.Sums.{prefix_len-le-length}
+-- The table over the slice, and the slice when it ends.
+use Rattle.std.proofs.Common.{rules, Ok, Err, refl, sym, ◌∙◌}
+use Rattle.std.proofs.lemmas.Result.{err_from_is_err_and}
 use Rattle.table.specs.Tables.{content_of}
-use Rattle.segm.specs.declared.line_mark.LineMark.{LineMark}
 use Rattle.rounds.specs.Pieces.{cut_from}
-use Rattle.cutting.specs.Cutting.{point_at}
-use Rattle.cutting.proofs.Joining.{keeps_none, keeps_then, joined_none, joined_then, crowded_then, joins_failed, brings_joins}
-use Rattle.cutting.proofs.MarkRows.{rows_none, rows_points, rows_more, cut_more, cut_fewer}
+use Rattle.cutting.proofs.Slices.{slice_pieced, slice_refused}
 use Rattle.cutting.proofs.pieces.cut_edges.Goals as goal
 
-pub loop-i-init : goal.loop-i-init
-loop-i-init g c = record { kept = keeps_none; joined = λ o. (rows_none c.args.marks.now o, joined_none) }
-
-pub split_at_mut-row-requires : goal.split_at_mut-row-requires
-split_at_mut-row-requires g c = omega (arith, c.marks_on-count.ensures, prefix_len-le-length (λ (m : LineMark). m.index == c.loop-i.i) c.loop-i.rest.now)
-
-pub loop-i-preserved : goal.loop-i-preserved
-loop-i-preserved g c =
+pub returns-clause-pieces : goal.returns-clause-pieces
+returns-clause-pieces g c = λ ordered ps p.
     let K = g.C.WindingCount.kind in
-    let ms = c.args.marks.now in
-    let l = c.args.edges.now in
-    let i = c.loop-i.i in
-    let split = c.split_at_mut-row in
-    let n = c.marks_on-count in
-    let step = c.in_ok-cut_edge.ensures in
-    record {
-      kept = keeps_then c.loop-i.invariant.kept step.kept;
-      joined = λ o.
-          let h = c.loop-i.invariant.joined o in
-          let on = rows_points h.0 n.result n.ensures split.result.0.now split.ensures.front in (
-            rows_more h.0 n.result n.ensures split.result.1.now split.ensures.back,
-            joined_then h.1 step (cut_more K ms l i c.index-edges-i.result c.loop-i-test.true c.index-edges-i.is (map point_at split.result.0.now) on),
-          );
-    }
+    let t = content_of c.cut_into.new.list in
+    slice_pieced K (cut_from K 0 c.args.marks.now c.args.edges.now) ps c.args.room c.args.list.now p (content_of c.open-table.result) t c.open-table.ensures.content
+    c.in_ok-cut_into.field-0 _ c.len.result (c.in_ok-cut_into.ensures.pieces ordered) c.cut_into.new.list.sound (search rules) c.len.ensures
 
-pub returns-in_err-cut_edge : goal.returns-in_err-cut_edge
-returns-in_err-cut_edge g c =
+pub returns-in_err-cut_into-clause-pieces : goal.returns-in_err-cut_into-clause-pieces
+returns-in_err-cut_into-clause-pieces g c = λ ordered ps p.
     let K = g.C.WindingCount.kind in
-    let ms = c.args.marks.now in
-    let l = c.args.edges.now in
-    let i = c.loop-i.i in
-    let split = c.split_at_mut-row in
-    let n = c.marks_on-count in
-    let step = c.in_err-cut_edge.ensures in
-    record {
-      pieces = λ o.
-          let h = c.loop-i.invariant.joined o in
-          let on = rows_points h.0 n.result n.ensures split.result.0.now split.ensures.front in
-          brings_joins (cut_from K 0 ms l) (content_of c.args.list.now) (content_of c.cut_edge.new.list) c.from_residual.result
-          (joins_failed c.from_residual.result
-          (crowded_then h.1 step (cut_fewer K ms l i c.index-edges-i.result c.loop-i-test.true c.index-edges-i.is (map point_at split.result.0.now) on))
-          c.from_residual.ensures.1);
-      kept = keeps_then c.loop-i.invariant.kept step.kept;
-    }
-
-pub returns : goal.returns
-returns g c =
-    let K = g.C.WindingCount.kind in
-    let ms = c.args.marks.now in
-    let l = c.args.edges.now in
-    let i = c.loop-i.i in
-    record {
-      pieces = λ o ps p.
-          let done : take i l ≡ l = take_all i l c.loop-i-test.false in
-          let h = rw done at (c.loop-i.invariant.joined o).1 in
-          (h.pieced ps p, h.kept.room, h.kept.long);
-      kept = c.loop-i.invariant.kept;
-    }
+    slice_refused K (cut_from K 0 c.args.marks.now c.args.edges.now) ps c.args.room c.args.list.now p (content_of c.open-table.result) (content_of c.cut_into.new.list) c.open-table.ensures.content
+    (Unit {0}) c.in_err-cut_into.field-0.0 c.from_residual.result _ (c.in_err-cut_into.ensures.pieces ordered) c.from_residual.ensures.1

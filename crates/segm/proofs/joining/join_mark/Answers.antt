@@ -5,7 +5,8 @@ use Rattle.segm.proofs.joining.join_mark.Goals as goal
 
 pub returns : goal.returns
 returns c = record {
-  answer = c.insert.ensures;
-  marked = joined_marked c.args.m (content_of c.args.marks.now) _ c.insert.result c.insert.ensures;
+  answer = c.insert.ensures.answer;
+  marked = joined_marked c.args.m (content_of c.args.marks.now) _ c.insert.result c.insert.ensures.answer;
   determined = marks_determine;
+  same = c.insert.ensures.same;
 }

@@ -8,7 +8,8 @@ pub returns : goal.returns
 returns g c =
     let K = g.C.WindingCount.kind in
     record {
-      answer = c.insert.ensures;
-      adds = joined_adds K c.args.s (content_of c.args.edges.now) _ c.insert.result c.insert.ensures c.args.edges.now.sound.ordered;
+      answer = c.insert.ensures.answer;
+      adds = joined_adds K c.args.s (content_of c.args.edges.now) _ c.insert.result c.insert.ensures.answer c.args.edges.now.sound.ordered;
       determined = counting_determined K;
+      same = c.insert.ensures.same;
     }

@@ -4,4 +4,4 @@ use Rattle.segm.proofs.Corners.{corner_grows}
 use Rattle.segm.proofs.open_ends.join_corner.Goals as goal
 
 pub returns : goal.returns
-returns g c = corner_grows g.C.WindingCount.kind c.args.corner (content_of c.args.corners.now) _ c.insert.result c.insert.ensures
+returns g c = corner_grows g.C.WindingCount.kind c.args.corner (content_of c.args.corners.now) _ c.insert.result c.insert.ensures.answer

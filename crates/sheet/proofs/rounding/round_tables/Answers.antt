@@ -1,16 +1,15 @@
 -- What each way through a round leaves and answers.
-use Rattle.std.proofs.Common.{◌≡◌, ◌+◌, ◌≤◌, [], length, sym, refl, ap, ◌∙◌, subst, arith}
+use Rattle.std.proofs.Common.{◌≡◌, ◌+◌, ◌≤◌, [], length, take, sym, refl, ap, ◌∙◌, subst, arith}
 use Rattle.std.proofs.lemmas.Result.{err_from_is_err_and}
 use Rattle.std.proofs.lemmas.Bool.{leb-true}
-use Rattle.table.specs.Contents.{Content, records}
+use Rattle.table.specs.Contents.{records}
 use Rattle.table.specs.Listings.{Ordered}
 use Rattle.table.specs.Tables.{content_of, records_of}
 use Rattle.segm.specs.MarkKind.{mark_kind}
-use Rattle.segm.specs.declared.line_mark.LineMark.{LineMark}
 use Rattle.rounds.specs.Pieces.{cut_from}
 use Rattle.history.specs.Sheets.{mark_places}
 use Rattle.marking.specs.Gathering.{Gathered, use_of}
-use Rattle.sheet.proofs.RoundTables.{not_gathered, too_many, few_marks, left_whole, left_cut, never_crowded, never_refused, pieced_none}
+use Rattle.sheet.proofs.RoundTables.{not_gathered, too_many, left_whole, left_cut, never_crowded, never_refused, pieced_none, blank_unused, blank_used}
 use Rattle.sheet.proofs.Variants.{taken, broken}
 use Rattle.sheet.proofs.rounding.round_tables.Goals as goal
 
@@ -20,80 +19,75 @@ returns-in_err-answer-clause-round g c = λ s lies.
     let K = g.C.WindingCount.kind in let F = g.F.Finder in
     let u = use_of F.need (F.meaning c.args.finder.now) in
     let E = content_of c.args.edges.now in let S = content_of c.args.spare.now in
-    let opened = c.open-table.ensures.content in
-    let none : records_of c.open-table.result ≡ [] = ap (λ (t : Content LineMark). records t) opened in
-    let room : c.open-table.result.room ≡ mark_places s.lengths = let r = ap (λ (t : Content LineMark). t.room) opened in let m = lies.mark_length in omega arith in
-    rw (p.1, p.2) (not_gathered K F.walks u s E S c.args.marks.now c.args.radius.current lies _ (c.in_err-answer.ensures.marks s lies.sound (lies.listed ∙ sym c.records.ensures) (sym lies.exponent) none room), refl, refl)
+    let usable = c.split_at_mut-usable.result.0.now in
+    let long : length usable ≡ mark_places s.lengths = let f = c.split_at_mut-usable.ensures.front_len in let m = lies.mark_length in let l = c.min.ensures in omega arith in
+    rw (p.1, p.2) (not_gathered K F.walks u s E S c.args.marks.now c.args.radius.current lies _ (c.in_err-answer.ensures.marks s lies.sound (lies.listed ∙ sym c.records.ensures) (sym lies.exponent) long), refl, refl)
 
 pub returns-then-not-has_room_for-clause-round : goal.returns-then-not-has_room_for-clause-round
 returns-then-not-has_room_for-clause-round g c = λ s lies.
     let K = g.C.WindingCount.kind in let F = g.F.Finder in
     let u = use_of F.need (F.meaning c.args.finder.now) in
     let E = content_of c.args.edges.now in let S = content_of c.args.spare.now in
-    let opened = c.open-table.ensures.content in
-    let none : records_of c.open-table.result ≡ [] = ap (λ (t : Content LineMark). records t) opened in
-    let room : c.open-table.result.room ≡ mark_places s.lengths = let r = ap (λ (t : Content LineMark). t.room) opened in let m = lies.mark_length in omega arith in
-    let t = c.gather.new.marks in
+    let usable = c.split_at_mut-usable.result.0.now in
+    let long : length usable ≡ mark_places s.lengths = let f = c.split_at_mut-usable.ensures.front_len in let m = lies.mark_length in let l = c.min.ensures in omega arith in
     let a = c.in_ok-answer.answer in
     let known = c.in_ok-answer.ensures in
-    let found : Gathered F.walks u s (records_of t) a = known.marks s lies.sound (lies.listed ∙ sym c.records.ensures) (sym lies.exponent) none room in
-    let within : a.marks ≤ mark_places s.lengths = few_marks (content_of c.open-table.result) (content_of t) (mark_places s.lengths) a.marks t.sound known.size.room room known.number in
-    (too_many K F.walks u s E S c.args.marks.now c.args.radius.current lies (records_of t) a found within c.if-not-has_room_for.ensures, refl, refl)
+    let ns = take a.marks c.gather.new.marks in
+    let found : Gathered F.walks u s ns a = known.marks s lies.sound (lies.listed ∙ sym c.records.ensures) (sym lies.exponent) long in
+    let within : a.marks ≤ mark_places s.lengths = let w = known.within in omega arith in
+    (too_many K F.walks u s E S c.args.marks.now c.args.radius.current lies ns a found within c.if-not-has_room_for.ensures, refl, refl)
 
-pub returns-in_err-cut_edges-clause-round : goal.returns-in_err-cut_edges-clause-round
-returns-in_err-cut_edges-clause-round g c = λ s lies.
+pub returns-in_err-cut_into-clause-round : goal.returns-in_err-cut_into-clause-round
+returns-in_err-cut_into-clause-round g c = λ s lies.
     let K = g.C.WindingCount.kind in let F = g.F.Finder in
     let u = use_of F.need (F.meaning c.args.finder.now) in
     let E = content_of c.args.edges.now in let S = content_of c.args.spare.now in
-    let opened = c.open-table.ensures.content in
-    let none : records_of c.open-table.result ≡ [] = ap (λ (t : Content LineMark). records t) opened in
-    let room : c.open-table.result.room ≡ mark_places s.lengths = let r = ap (λ (t : Content LineMark). t.room) opened in let m = lies.mark_length in omega arith in
-    let t = c.gather.new.marks in
+    let usable = c.split_at_mut-usable.result.0.now in
+    let long : length usable ≡ mark_places s.lengths = let f = c.split_at_mut-usable.ensures.front_len in let m = lies.mark_length in let l = c.min.ensures in omega arith in
     let a = c.in_ok-answer.answer in
     let known = c.in_ok-answer.ensures in
-    let found : Gathered F.walks u s (records_of t) a = known.marks s lies.sound (lies.listed ∙ sym c.records.ensures) (sym lies.exponent) none room in
-    let within : a.marks ≤ mark_places s.lengths = few_marks (content_of c.open-table.result) (content_of t) (mark_places s.lengths) a.marks t.sound known.size.room room known.number in
-    let M = c.into_records.result.now in
-    let own : M ≡ records_of t = c.into_records.ensures in
+    let ns = take a.marks c.gather.new.marks in
+    let found : Gathered F.walks u s ns a = known.marks s lies.sound (lies.listed ∙ sym c.records.ensures) (sym lies.exponent) long in
+    let within : a.marks ≤ mark_places s.lengths = let w = known.within in omega arith in
+    let M = c.split_at_mut-used.result.0.now in
+    let own : M ≡ ns = c.split_at_mut-used.ensures.front in
     let ordered : Ordered mark_kind M = subst (Ordered mark_kind) (sym own) found.marked.ordered in
     let ps = cut_from K 0 M c.records-2.result.now in
-    let same : ps ≡ cut_from K 0 (records_of t) s.edges = λ i. cut_from K 0 (own i) ((c.records-2.ensures ∙ sym lies.listed) i) in
+    let same : ps ≡ cut_from K 0 ns s.edges = λ i. cut_from K 0 (own i) ((c.records-2.ensures ∙ sym lies.listed) i) in
     let start = pieced_none K S lies.emptied in
     let fits = leb-true (length (records E) + a.marks) c.args.edges.now.room (sym c.if-not-has_room_for.ensures) in
-    absurd (never_crowded K F.walks u s E S c.args.marks.now c.args.radius.current lies (records_of t) a found within fits ps same (c.in_err-cut_edges.ensures.pieces ordered [] start).1)
+    absurd (never_crowded K F.walks u s E S c.args.marks.now c.args.radius.current lies ns a found within fits ps same (c.in_err-cut_into.ensures.pieces ordered [] start).1)
 
 pub returns-in_err-map_err-clause-round : goal.returns-in_err-map_err-clause-round
 returns-in_err-map_err-clause-round g c = λ s lies.
     let K = g.C.WindingCount.kind in let F = g.F.Finder in
     let u = use_of F.need (F.meaning c.args.finder.now) in
     let E = content_of c.args.edges.now in let S = content_of c.args.spare.now in
-    let opened = c.open-table.ensures.content in
-    let none : records_of c.open-table.result ≡ [] = ap (λ (t : Content LineMark). records t) opened in
-    let room : c.open-table.result.room ≡ mark_places s.lengths = let r = ap (λ (t : Content LineMark). t.room) opened in let m = lies.mark_length in omega arith in
-    let t = c.gather.new.marks in
+    let usable = c.split_at_mut-usable.result.0.now in
+    let long : length usable ≡ mark_places s.lengths = let f = c.split_at_mut-usable.ensures.front_len in let m = lies.mark_length in let l = c.min.ensures in omega arith in
     let a = c.in_ok-answer.answer in
     let known = c.in_ok-answer.ensures in
-    let found : Gathered F.walks u s (records_of t) a = known.marks s lies.sound (lies.listed ∙ sym c.records.ensures) (sym lies.exponent) none room in
-    let within : a.marks ≤ mark_places s.lengths = few_marks (content_of c.open-table.result) (content_of t) (mark_places s.lengths) a.marks t.sound known.size.room room known.number in
+    let ns = take a.marks c.gather.new.marks in
+    let found : Gathered F.walks u s ns a = known.marks s lies.sound (lies.listed ∙ sym c.records.ensures) (sym lies.exponent) long in
+    let within : a.marks ≤ mark_places s.lengths = let w = known.within in omega arith in
     let fits = leb-true (length (records E) + a.marks) c.args.edges.now.room (sym c.if-not-has_room_for.ensures) in
-    let joined = c.cut_edges.new.list in
-    absurd (never_refused K F.walks u s E S c.args.marks.now c.args.radius.current lies (records_of t) a found within fits (content_of joined) joined.sound c.in_ok-cut_edges.ensures.kept.room (broken _ _ c.take_over.result c.in_err-map_err.ensures.variant c.take_over.ensures).0)
+    let t = c.cut_into.new.list in
+    absurd (never_refused K F.walks u s E S c.args.marks.now c.args.radius.current lies ns a found within fits (content_of t) t.sound c.in_ok-cut_into.ensures.kept.room (broken _ _ c.take_over.result c.in_err-map_err.ensures.variant c.take_over.ensures).0)
 
 pub returns-then-answer-eq0-clause-round : goal.returns-then-answer-eq0-clause-round
 returns-then-answer-eq0-clause-round g c = λ s lies.
     let K = g.C.WindingCount.kind in let F = g.F.Finder in
     let u = use_of F.need (F.meaning c.args.finder.now) in
     let E = content_of c.args.edges.now in let S = content_of c.args.spare.now in
-    let opened = c.open-table.ensures.content in
-    let none : records_of c.open-table.result ≡ [] = ap (λ (t : Content LineMark). records t) opened in
-    let room : c.open-table.result.room ≡ mark_places s.lengths = let r = ap (λ (t : Content LineMark). t.room) opened in let m = lies.mark_length in omega arith in
-    let t = c.gather.new.marks in
+    let usable = c.split_at_mut-usable.result.0.now in
+    let long : length usable ≡ mark_places s.lengths = let f = c.split_at_mut-usable.ensures.front_len in let m = lies.mark_length in let l = c.min.ensures in omega arith in
     let a = c.in_ok-answer.answer in
     let known = c.in_ok-answer.ensures in
-    let found : Gathered F.walks u s (records_of t) a = known.marks s lies.sound (lies.listed ∙ sym c.records.ensures) (sym lies.exponent) none room in
-    let within : a.marks ≤ mark_places s.lengths = few_marks (content_of c.open-table.result) (content_of t) (mark_places s.lengths) a.marks t.sound known.size.room room known.number in
+    let ns = take a.marks c.gather.new.marks in
+    let found : Gathered F.walks u s ns a = known.marks s lies.sound (lies.listed ∙ sym c.records.ensures) (sym lies.exponent) long in
+    let within : a.marks ≤ mark_places s.lengths = let w = known.within in omega arith in
     let fits = leb-true (length (records E) + a.marks) c.args.edges.now.room (sym c.if-not-has_room_for.ensures) in
-    let left = left_whole K F.walks u s E S c.args.marks.now c.args.radius.current lies (records_of t) a found within fits c.if-answer-eq0.true in
+    let left = left_whole K F.walks u s E S c.args.marks.now c.args.radius.current lies ns a found within fits c.if-answer-eq0.true in
     (left.done, left.lies_again, left.came)
 
 pub returns-clause-round : goal.returns-clause-round
@@ -101,21 +95,65 @@ returns-clause-round g c = λ s lies.
     let K = g.C.WindingCount.kind in let F = g.F.Finder in
     let u = use_of F.need (F.meaning c.args.finder.now) in
     let E = content_of c.args.edges.now in let S = content_of c.args.spare.now in
-    let opened = c.open-table.ensures.content in
-    let none : records_of c.open-table.result ≡ [] = ap (λ (t : Content LineMark). records t) opened in
-    let room : c.open-table.result.room ≡ mark_places s.lengths = let r = ap (λ (t : Content LineMark). t.room) opened in let m = lies.mark_length in omega arith in
-    let t = c.gather.new.marks in
+    let usable = c.split_at_mut-usable.result.0.now in
+    let long : length usable ≡ mark_places s.lengths = let f = c.split_at_mut-usable.ensures.front_len in let m = lies.mark_length in let l = c.min.ensures in omega arith in
     let a = c.in_ok-answer.answer in
     let known = c.in_ok-answer.ensures in
-    let found : Gathered F.walks u s (records_of t) a = known.marks s lies.sound (lies.listed ∙ sym c.records.ensures) (sym lies.exponent) none room in
-    let within : a.marks ≤ mark_places s.lengths = few_marks (content_of c.open-table.result) (content_of t) (mark_places s.lengths) a.marks t.sound known.size.room room known.number in
-    let M = c.into_records.result.now in
-    let own : M ≡ records_of t = c.into_records.ensures in
+    let ns = take a.marks c.gather.new.marks in
+    let found : Gathered F.walks u s ns a = known.marks s lies.sound (lies.listed ∙ sym c.records.ensures) (sym lies.exponent) long in
+    let within : a.marks ≤ mark_places s.lengths = let w = known.within in omega arith in
+    let M = c.split_at_mut-used.result.0.now in
+    let own : M ≡ ns = c.split_at_mut-used.ensures.front in
     let ordered : Ordered mark_kind M = subst (Ordered mark_kind) (sym own) found.marked.ordered in
     let ps = cut_from K 0 M c.records-2.result.now in
-    let same : ps ≡ cut_from K 0 (records_of t) s.edges = λ i. cut_from K 0 (own i) ((c.records-2.ensures ∙ sym lies.listed) i) in
+    let same : ps ≡ cut_from K 0 ns s.edges = λ i. cut_from K 0 (own i) ((c.records-2.ensures ∙ sym lies.listed) i) in
     let start = pieced_none K S lies.emptied in
     let fits = leb-true (length (records E) + a.marks) c.args.edges.now.room (sym c.if-not-has_room_for.ensures) in
-    let joined = c.in_ok-cut_edges.ensures.pieces ordered [] start in
-    let left = left_cut K F.walks u s E S c.args.marks.now c.args.radius.current lies (records_of t) a found within fits (content_of c.cut_edges.new.list) (content_of c.take_over.new.self) (content_of c.take_over.new.other) ps same joined.0 joined.1 joined.2 (taken _ _ c.take_over.result c.in_ok-map_err.ensures.variant c.take_over.ensures) in
+    let joined = c.in_ok-cut_into.ensures.pieces ordered [] start in
+    let left = left_cut K F.walks u s E S c.args.marks.now c.args.radius.current lies ns a found within fits (content_of c.cut_into.new.list) (content_of c.take_over.new.self) (content_of c.take_over.new.other) ps same joined.0 joined.1 joined.2 (taken _ _ c.take_over.result c.in_ok-map_err.ensures.variant c.take_over.ensures) in
     (left.done, left.lies_again, left.came)
+
+pub returns-in_err-answer-clause-marks : goal.returns-in_err-answer-clause-marks
+returns-in_err-answer-clause-marks g c =
+    let s = c.split_at_mut-usable.ensures in
+    blank_unused c.args.marks.now c.split_at_mut-usable.result.1.now c.min.result c.requires s.back_len s.back c.gather.new.marks _ c.in_err-answer.ensures.blank s.front_len
+
+pub returns-then-not-has_room_for-clause-marks : goal.returns-then-not-has_room_for-clause-marks
+returns-then-not-has_room_for-clause-marks g c =
+    let s = c.split_at_mut-usable.ensures in
+    let t = c.split_at_mut-used.ensures in
+    let known = c.in_ok-answer.ensures in
+    blank_used c.args.marks.now c.split_at_mut-usable.result.1.now c.min.result c.requires s.back_len s.back c.drop-guard.new.self.0 c.split_at_mut-used.result.1.now c.gather.new.marks
+    c.in_ok-answer.answer.marks _ _ s.front_len known.within t.back known.blank c.drop-guard.ensures (t.front_len)
+
+pub returns-then-answer-eq0-clause-marks : goal.returns-then-answer-eq0-clause-marks
+returns-then-answer-eq0-clause-marks g c =
+    let s = c.split_at_mut-usable.ensures in
+    let t = c.split_at_mut-used.ensures in
+    let known = c.in_ok-answer.ensures in
+    blank_used c.args.marks.now c.split_at_mut-usable.result.1.now c.min.result c.requires s.back_len s.back c.drop-guard-then-answer-eq0.new.self.0 c.split_at_mut-used.result.1.now c.gather.new.marks
+    c.in_ok-answer.answer.marks _ _ s.front_len known.within t.back known.blank c.drop-guard-then-answer-eq0.ensures (t.front_len)
+
+pub returns-in_err-cut_into-clause-marks : goal.returns-in_err-cut_into-clause-marks
+returns-in_err-cut_into-clause-marks g c =
+    let s = c.split_at_mut-usable.ensures in
+    let t = c.split_at_mut-used.ensures in
+    let known = c.in_ok-answer.ensures in
+    blank_used c.args.marks.now c.split_at_mut-usable.result.1.now c.min.result c.requires s.back_len s.back c.drop-guard-in_err-cut_into.new.self.0 c.split_at_mut-used.result.1.now c.gather.new.marks
+    c.in_ok-answer.answer.marks _ _ s.front_len known.within t.back known.blank c.drop-guard-in_err-cut_into.ensures (c.cut_into.auto.marks ∙ t.front_len)
+
+pub returns-in_err-map_err-clause-marks : goal.returns-in_err-map_err-clause-marks
+returns-in_err-map_err-clause-marks g c =
+    let s = c.split_at_mut-usable.ensures in
+    let t = c.split_at_mut-used.ensures in
+    let known = c.in_ok-answer.ensures in
+    blank_used c.args.marks.now c.split_at_mut-usable.result.1.now c.min.result c.requires s.back_len s.back c.drop-guard-in_err-map_err.new.self.0 c.split_at_mut-used.result.1.now c.gather.new.marks
+    c.in_ok-answer.answer.marks _ _ s.front_len known.within t.back known.blank c.drop-guard-in_err-map_err.ensures (c.cut_into.auto.marks ∙ t.front_len)
+
+pub returns-clause-marks : goal.returns-clause-marks
+returns-clause-marks g c =
+    let s = c.split_at_mut-usable.ensures in
+    let t = c.split_at_mut-used.ensures in
+    let known = c.in_ok-answer.ensures in
+    blank_used c.args.marks.now c.split_at_mut-usable.result.1.now c.min.result c.requires s.back_len s.back c.drop-guard-2.new.self.0 c.split_at_mut-used.result.1.now c.gather.new.marks
+    c.in_ok-answer.answer.marks _ _ s.front_len known.within t.back known.blank c.drop-guard-2.ensures (c.cut_into.auto.marks ∙ t.front_len)

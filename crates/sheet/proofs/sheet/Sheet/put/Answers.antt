@@ -34,7 +34,7 @@ returns-in_err-map_err g c = λ u.
     let x = c.in_ok-segment.segment in
     let begun : Begun K p q c.args.count x (page_of s) E E' =
     record { sound = (held_of K s s.edges.sound s.spare.sound).sound; listed = refl; room = s.edge_room; table_sound = s.edges.sound; passed = d.0; ends = d.1; counts_as = d.2 } in
-    let refused = broken _ _ c.insert.result c.in_err-map_err.ensures.variant c.insert.ensures in
+    let refused = broken _ _ c.insert.result c.in_err-map_err.ensures.variant c.insert.ensures.answer in
     let f = c.in_err-map_err.field-0.0 in
     let full : f ≡ SheetFull = turned f SheetFull c.insert.result (MatchResult-weaker c.insert.result c.in_err-map_err.ensures.cases (λ x w. w) (λ e w. search rules)) in
     let same = ap (λ (t : Content (Segment g.row.C.Denot)). page_in t (content_of s.spare) s.marks.now s.state s.radius.current s.start s.radius.step) refused.same in
@@ -50,7 +50,7 @@ invariant_of-self-2 g c =
     let x = c.in_ok-segment.segment in
     let begun : Begun K p q c.args.count x (page_of s) E E' =
     record { sound = (held_of K s s.edges.sound s.spare.sound).sound; listed = refl; room = s.edge_room; table_sound = s.edges.sound; passed = d.0; ends = d.1; counts_as = d.2 } in
-    let came = taken _ _ c.insert.result c.in_ok-map_err.ensures.variant c.insert.ensures in
+    let came = taken _ _ c.insert.result c.in_ok-map_err.ensures.variant c.insert.ensures.answer in
     let after = changed (page_of s) (records E') Raw s.start in
     let sound = put_sound K (facts K) p q c.args.count (page_of s) after (Ok tt) begun.sound (put_ended K p q c.args.count x (page_of s) E E' after begun came refl) in
     record {
@@ -71,7 +71,7 @@ returns g c = λ u.
     let x = c.in_ok-segment.segment in
     let begun : Begun K p q c.args.count x (page_of s) E E' =
     record { sound = (held_of K s s.edges.sound s.spare.sound).sound; listed = refl; room = s.edge_room; table_sound = s.edges.sound; passed = d.0; ends = d.1; counts_as = d.2 } in
-    let came = taken _ _ c.insert.result c.in_ok-map_err.ensures.variant c.insert.ensures in
+    let came = taken _ _ c.insert.result c.in_ok-map_err.ensures.variant c.insert.ensures.answer in
     let is : page_in E' (content_of s.spare) s.marks.now Raw s.start s.start s.radius.step ≡ changed (page_of s) (records E') Raw s.start = λ i. record {
       edges = records E';
       state = Raw;

@@ -6,7 +6,7 @@ use Rattle.table.specs.Tables.{records_of}
 use Rattle.marking.specs.Gathering.{Gathered, Unpieced, use_of}
 use Rattle.marking.proofs.Noting.{at_refusal, refused_as}
 use Rattle.marking.proofs.GatheredMarks.{gather_refused, gather_done}
-use Rattle.marking.proofs.gathering.gather.Goals as goal
+use Rattle.marking.proofs.gathering.gather_into.Goals as goal
 
 pub returns-in_err-fill-clause-marks : goal.returns-in_err-fill-clause-marks
 returns-in_err-fill-clause-marks g c s sound edges exponent empty room =
