@@ -6,8 +6,8 @@ ghost use Rattle.grid.specs.Tables.{walking?};
 #[derive(Clone, Copy)]
 pub struct Cursor {
     pub column: usize,
-    pub first: Option<usize>,
-    pub second: Option<usize>,
+    pub first: Option<u32>,
+    pub second: Option<u32>,
 }
 
 /// A pair of numbers, and where the walk stands behind it.

@@ -14,7 +14,7 @@ pub struct Fragment {
     pub rect: IntRect,
     /// The next fragment of the column, once a walk has begun.
     // Stays: a number and no reference, since the table is the caller's slice; sorting it by columns would lose the order shown, in which it tells the edges.
-    pub next: Option<usize>,
+    pub next: Option<u32>,
 }
 
 impl Fragment {

@@ -18,7 +18,7 @@ pub struct FragmentBuffer<'a> {
     used: usize,
     intake: Intake,
     layout: GridLayout,
-    heads: [Option<usize>; COLUMNS],
+    heads: [Option<u32>; COLUMNS],
     state: WalkState,
     ghost sound: { ∥ Sound fragments.now used intake.shown intake.announced (box_of intake.extent) (layout_of layout) heads state ∥₁ },
 }

@@ -10,7 +10,7 @@ use crate::linking::COLUMNS;
 #[derive(Clone, Copy)]
 pub(crate) struct LinkedTable<'a> {
     pub(crate) table: &'a [Fragment],
-    pub(crate) heads: &'a [Option<usize>; COLUMNS],
+    pub(crate) heads: &'a [Option<u32>; COLUMNS],
     pub(crate) layout: GridLayout,
     ghost linked: { Linked table.now heads.now } by { linked_prop table.now heads.now },
 }

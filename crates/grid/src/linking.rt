@@ -11,7 +11,7 @@ pub(crate) const COLUMNS: usize = 128;
 pub(crate) const MOST_FRAGMENTS: usize = 524_288;
 
 /// Links the fragments of each column, and tells the first of each.
-pub(crate) fn link(fragments: &mut [Fragment]) -> [Option<usize>; COLUMNS]
+pub(crate) fn link(fragments: &mut [Fragment]) -> [Option<u32>; COLUMNS]
     requires short { length fragments.old ≤ 524288 }
     requires narrow { Narrow (contents fragments.old) }
     ensures same { contents fragments.new ≡ contents fragments.old }
@@ -20,7 +20,7 @@ pub(crate) fn link(fragments: &mut [Fragment]) -> [Option<usize>; COLUMNS]
     let mut heads = [None; COLUMNS];
     for k in (0..fragments.len()).rev() {
         let column = fragments[k].column;
-        fragments[k].next = heads[column].replace(k);
+        fragments[k].next = heads[column].replace(k as u32);
     }
     heads
 }

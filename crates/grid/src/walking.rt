@@ -75,12 +75,12 @@ fn first_column(stage: Stage, column: usize) -> usize
 
 impl LinkedTable<'_> {
     /// Where the partners of a first fragment begin: behind it in its own column, or at the head of the column left of its border.
-    fn partners(&self, stage: Stage, column: usize, first: usize) -> Option<usize>
+    fn partners(&self, stage: Stage, column: usize, first: u32) -> Option<u32>
         requires few { column < limit stage }
         requires named { Names (contents self.now.table.now) (first_of stage column) (Some first) }
         ensures { Partnered (layout_of self.now.layout) stage (contents self.now.table.now) column first result }
     {
-        let fragment = self.table[first];
+        let fragment = self.table[first as usize];
         match stage {
             Stage::Columns => fragment.next,
             Stage::Borders => {
@@ -94,7 +94,7 @@ impl LinkedTable<'_> {
     }
 
     /// A cursor at a first fragment, or at none.
-    pub(crate) fn begin(&self, stage: Stage, column: usize, first: Option<usize>) -> Cursor
+    pub(crate) fn begin(&self, stage: Stage, column: usize, first: Option<u32>) -> Cursor
         requires few { column < limit stage }
         requires named { Names (contents self.now.table.now) (first_of stage column) first }
         ensures { Begun (layout_of self.now.layout) stage (contents self.now.table.now) column first result }
@@ -118,7 +118,7 @@ impl LinkedTable<'_> {
         ensures { Advanced (layout_of self.now.layout) stage (contents self.now.table.now) at result }
     {
         if let Some(first) = at.first {
-            let next = self.table[first].next;
+            let next = self.table[first as usize].next;
             return Some(self.begin(stage, at.column, next));
         }
         let column = at.column + 1;
@@ -137,9 +137,9 @@ impl LinkedTable<'_> {
         let mut at = from;
         loop {
             if let Some(first) = at.first {
-                let p = self.table[first];
+                let p = self.table[first as usize];
                 while let Some(second) = at.second {
-                    let q = self.table[second];
+                    let q = self.table[second as usize];
                     at.second = q.next;
                     if passes(stage, p, q) {
                         return Some(Found {

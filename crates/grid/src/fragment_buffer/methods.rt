@@ -87,7 +87,7 @@ fn walk(
     fragments: &mut [Fragment],
     used: usize,
     layout: GridLayout,
-    heads: &mut [Option<usize>; COLUMNS],
+    heads: &mut [Option<u32>; COLUMNS],
     state: WalkState,
 ) -> Step
     requires room { used ≤ min (length fragments.old) 524288 }
