@@ -13,4 +13,5 @@ pub mod Laid
 pub mod Steps
 pub mod Placing
 pub mod Sounds
+pub mod Rooms
 pub mod Worked

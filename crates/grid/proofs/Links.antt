@@ -1,10 +1,10 @@
 -- Columns that are linked from the end of the table on.
-use Rattle.std.proofs.Common.{◌≡◌, ℕ, zero, suc, ◌+◌, ◌-◌, ◌<◌, ◌≤◌, eqb, ◌⊎◌, List, ◌∷◌, length, get_or, drop, set, replicate, Some, None, Option, sym, refl, ap, ◌∙◌, subst, inl, inr, zero-add, arith, drop-cons}
+use Rattle.std.proofs.Common.{◌≡◌, ℕ, zero, suc, ◌+◌, ◌-◌, ◌<◌, ◌≤◌, eqb, ◌⊎◌, List, [], ◌∷◌, length, get_or, drop, set, replicate, Some, None, Option, sym, refl, ap, ◌∙◌, subst, inl, inr, zero-add, arith, drop-cons}
 use Rattle.std.proofs.lemmas.List.{length-map, length-set, get_or-map, get_or-set_same, get_or-set_other, set-get_or, map-set, drop_all, get_or-replicate, length-replicate}
 use Rattle.std.proofs.lemmas.Bool.{cond-true, cond-false, eq-eqb, ne_eqb, cases_eq}
 use Rattle.grid.specs.Layouts.{most_columns}
 use Rattle.grid.specs.declared.fragment.Fragment.{Fragment}
-use Rattle.grid.specs.Tables.{Content, content, contents, blank_content, listed, Narrow, Names, from, place, Leads}
+use Rattle.grid.specs.Tables.{Content, content, contents, blank_content, listed, Narrow, most_fragments, Names, from, place, Leads, Linked}
 
 -- ---- the parts of a column, from a place on
 pub listed_here : (ms : List Content) (c k : ℕ) → k < length ms → (get_or ms k blank_content).column ≡ c → listed c (drop k ms) ≡ (get_or ms k blank_content).part ∷ listed c (drop (suc k) ms)
@@ -14,6 +14,10 @@ listed_here ms c k h e = ap (listed c) (drop-cons ms k blank_content h) ∙ cond
 pub listed_skip : (ms : List Content) (c k : ℕ) → k < length ms → ((get_or ms k blank_content).column ≡ c → ⊥) → listed c (drop k ms) ≡ listed c (drop (suc k) ms)
 unfolding listed
 listed_skip ms c k h n = ap (listed c) (drop-cons ms k blank_content h) ∙ cond-false (eqb (get_or ms k blank_content).column c) _ _ (ne_eqb _ c n)
+
+pub listed_past : (ms : List Content) (c k : ℕ) → length ms ≤ k → listed c (drop k ms) ≡ []
+unfolding listed
+listed_past ms c k h = ap (listed c) (drop_all k ms h)
 
 -- where a link leads is in the table, or at its end
 pub named_below : (ms : List Content) (c : ℕ) (j : Option ℕ) → Names ms c j → place (length ms) j ≤ length ms
@@ -144,3 +148,6 @@ linking_narrow {entry} {qs} {heads} {k} j d w n h =
     let i : j < length qs = omega (arith, w.within) in
     subst (λ (m : Content). m.column < most_columns) (ap (λ (ms : List Content). get_or ms j blank_content) (sym w.same) ∙ content_at qs j d i)
     (n j (omega (arith, i, length-map qs content, ap length w.same)))
+
+pub linking_all : (entry qs : List Fragment) (heads : List (Option ℕ)) → Linking entry qs heads 0 → length qs ≤ most_fragments → Linked qs heads
+linking_all entry qs heads w h = record { short = h; starts = w.starts; goes_on = λ k d l. w.goes_on k d (omega arith) l }

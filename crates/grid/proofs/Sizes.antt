@@ -1,7 +1,7 @@
 -- A border that an edge crosses is between its ends, and heights there are at most its own.
-use Rattle.std.proofs.Common.{◌≡◌, ℕ, suc, ◌+◌, ◌-◌, ◌*◌, ◌/◌, ◌%◌, ◌^◌, ◌<◌, ◌≤◌, min, true, false, cond, eqb, ℤ, pos, ◌+ℤ◌, ◌-ℤ◌, nat_abs, ◌≤ℤ◌, ◌<ℤ◌, sym, ◌∙◌, subst, suc-mul, mul-le-mul_left, arith, w32, w64, SFits, to_z, of_z}
+use Rattle.std.proofs.Common.{◌≡◌, ℕ, suc, ◌+◌, ◌-◌, ◌*◌, ◌/◌, ◌%◌, ◌^◌, ◌<◌, ◌≤◌, min, true, false, cond, eqb, ℤ, pos, ◌+ℤ◌, ◌-ℤ◌, nat_abs, ◌≤ℤ◌, ◌<ℤ◌, sym, ap, ◌∙◌, subst, le_trans, suc-mul, mul-le-mul, mul-le-mul_left, arith, w32, w64, SFits, to_z, of_z}
 use borrow.Author.Differences.{ints}
-use lib.Signed.{le_z}
+use lib.Signed.{le_z, mag}
 use Rattle.std.proofs.lemmas.Grind.{div_ceil_times}
 use Rattle.std.proofs.lemmas.Nat.{div_below, le-div}
 use Rattle.std.proofs.lemmas.Bool.{cond-true, cond-false}
@@ -49,6 +49,9 @@ narrow z h = omega (arith, ints)
 -- differences of coordinates
 pub apart_le : (a b : ℤ) → InRange a → InRange b → nat_abs (b -ℤ a) ≤ 2 ^ 20
 apart_le a b h k = omega (arith, ints)
+
+pub run_le : (s : XSegment) → run (edge_of s) ≤ 2 ^ 20
+run_le s = apart_le s.a.x s.b.x s.a.wide s.b.wide
 
 pub rise_le : (s : XSegment) → rise (edge_of s) ≤ 2 ^ 20
 rise_le s = apart_le s.a.y s.b.y s.a.high s.b.high
@@ -106,6 +109,13 @@ low_le l e i w = go (rise e) (nat_abs (border l i -ℤ e.a.x)) (run e) w.wide w.
   where
     go : (h w b : ℕ) → 0 < b → w ≤ b → h * w / b ≤ h
     go h w b i k = lt_suc (div_below (h * w) b (suc h) i (omega (arith, suc-mul h b, mul-le-mul_left h k)))
+
+pub climb_le : (l : Layout) (s : XSegment) (i : ℕ) → Crossing l (edge_of s) i → climb l (edge_of s) i ≤ 2 ^ 40
+climb_le l s i w = le_trans (mul-le-mul (rise_le s) (le_trans w.near (run_le s))) (omega arith)
+
+-- the distance from the first end to a border that is held in 32 bits
+pub away_is : (l : Layout) (s : XSegment) (i : ℕ) (z : ℤ) → mag z < 2 ^ 31 → z ≡ border l i → by_bits s.a.x z ≡ border l i -ℤ s.a.x
+away_is l s i z h e = difference_is s.a.x z (coordinate_fits s.a.x s.a.wide) (record { sfits = h }) ∙ ap (λ (z : ℤ). z -ℤ s.a.x) e
 
 -- rounded up, as the code reckons it
 pub ceil_is : (n b : ℕ) → 0 < b → n / b + min 1 (n % b) ≡ (n + (b - 1)) / b

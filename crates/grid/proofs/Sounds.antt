@@ -135,6 +135,9 @@ module _ (g : FragmentBuffer) where
   pub known_few : g.intake.announced ≤ 4096
   known_few = ∥∥₁_elim g.sound le_prop (λ s. s.few)
 
+  pub known_below : g.intake.shown ≤ g.intake.announced
+  known_below = ∥∥₁_elim g.sound le_prop (λ s. s.below)
+
   pub known_wide : width (box_of g.intake.extent) <ℤ pos (2 ^ 32)
   known_wide = ∥∥₁_elim g.sound lt_prop (λ s. s.wide)
 
