@@ -34,6 +34,8 @@ impl LinkedTable<'_> {
     }
 
     /// The next pair, and where the walk stands behind it.
+    // In line, since a state that a call hands back goes through memory, in pieces, and is waited for at each pair.
+    #[inline(always)]
     pub(crate) fn step(&self, state: WalkState) -> Step
         requires stands { Stands (contents self.now.table.now) state }
         requires walks { walking? state ≡ true }
