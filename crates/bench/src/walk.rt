@@ -101,11 +101,12 @@ struct Found {
 fn walk<F: Finder>(edges: &[XSegment], finder: &mut F, seen: &mut [bool]) -> anyhow::Result<Found> {
     fill(edges, extent_of(edges), finder).map_err(|_| anyhow!("the finder refuses an edge"))?;
     let mut touches: usize = 0;
-    let pairs = call_at_all(finder, |i, j| {
+    let mut look = |i, j| {
         if touch_anew(edges, i, j, seen) {
             touches = touches.saturating_add(1);
         }
-    });
+    };
+    let pairs = call_at_all(finder, &mut look);
     Ok(Found { pairs, touches })
 }
 

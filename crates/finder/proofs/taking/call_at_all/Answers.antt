@@ -4,22 +4,22 @@ use Rattle.finder.specs.Finders.{Pair}
 use Rattle.finder.proofs.Walking.{came_more, came_all, number_more}
 use Rattle.finder.proofs.taking.call_at_all.Goals as goal
 
-pub loop-i-preserved : goal.loop-i-preserved
-loop-i-preserved g c =
+pub loop-first-preserved : goal.loop-first-preserved
+loop-first-preserved g c =
     let F = g.F.Finder in
-    let v = c.loop-i.invariant in
-    let p : Pair = (c.in-Some.i, c.in-Some.j) in
+    let v = c.loop-first.invariant in
+    let p : Pair = (c.in-Some.first, c.in-Some.second) in
     record {
       callable = search of_calls;
       done = v.done ++ (p ∷ []);
-      came = came_more F.walks (F.meaning c.loop-i.finder) (F.meaning c.next.new.self) c.next.result c.next.ensures (F.meaning c.args.finder.now) v.done v.came p c.in-Some.is;
-      visited = FoldsTo-push _ c.args.visit v.done c.loop-i.visit p c.visit.new.self v.visited c.visit.ensures;
-      counted = c.saturating_add-taken.ensures ∙ number_more v.done p c.loop-i.taken v.counted;
+      came = came_more F.walks (F.meaning c.loop-first.finder) (F.meaning c.next.new.self) c.next.result c.next.ensures (F.meaning c.args.finder.now) v.done v.came p c.in-Some.is;
+      visited = FoldsTo-push _ c.args.visit.now v.done c.loop-first.visit p c.visit.new.self v.visited c.visit.ensures;
+      counted = c.saturating_add-called.ensures ∙ number_more v.done p c.loop-first.called v.counted;
     }
 
 pub returns : goal.returns
 returns g c =
     let F = g.F.Finder in
-    let v = c.loop-i.invariant in
-    let all = came_all F.walks (F.meaning c.loop-i.finder) (F.meaning c.next.new.self) c.next.result c.next.ensures (F.meaning c.args.finder.now) v.done v.came c.in_default.is in
-    (c.loop-i.visit, record { took = record { pairs = v.done; allowed = all.0; number = v.counted; leaves = all.1 }; visited = v.visited })
+    let v = c.loop-first.invariant in
+    let all = came_all F.walks (F.meaning c.loop-first.finder) (F.meaning c.next.new.self) c.next.result c.next.ensures (F.meaning c.args.finder.now) v.done v.came c.in_default.is in
+    record { took = record { pairs = v.done; allowed = all.0; number = v.counted; leaves = all.1 }; visited = v.visited }
