@@ -148,15 +148,15 @@ module _ (ms back : List LineMark) (p : ℕ) (blank : ms ≡ replicate (length m
       (λ i. front i ++ back_blank i) ∙ replicate-append-replicate k (length ms - p) blank_mark ∙ ap (λ (n : ℕ). replicate n blank_mark) (omega (arith, is, long))
 
   -- nothing of them was used
-  pub blank_unused : (ns : List LineMark) (k : ℕ) → ns ≡ replicate k blank_mark → k ≡ p → ns ++ back ≡ replicate (length ms) blank_mark
-  blank_unused ns k none is = joined k is ns none
+  pub blank_unused : (left ns : List LineMark) (k : ℕ) → ns ≡ replicate k blank_mark → k ≡ p → left ≡ ns → left ++ back ≡ replicate (length ms) blank_mark
+  blank_unused left ns k none is same = joined k is left (same ∙ none)
 
   -- the first a of them were used, and are blank again
-  pub blank_used : (xs rest ns : List LineMark) (a m n : ℕ) → m ≡ p → a ≤ m → rest ≡ drop a ns → drop a ns ≡ replicate (m - a) blank_mark → xs ≡ replicate n blank_mark → n ≡ a
-      → (xs ++ rest) ++ back ≡ replicate (length ms) blank_mark
-  blank_used xs rest ns a m n is within own free again used =
-      let whole : xs ++ rest ≡ replicate (n + (m - a)) blank_mark = (λ i. again i ++ (own ∙ free) i) ∙ replicate-append-replicate n (m - a) blank_mark in
-      joined (n + (m - a)) (omega (arith, is, within, used)) (xs ++ rest) whole
+  pub blank_used : (left now ns : List LineMark) (a m : ℕ) → m ≡ p → a ≤ m → drop a now ≡ drop a ns → drop a ns ≡ replicate (m - a) blank_mark → left ≡ replicate a blank_mark ++ drop a now
+      → left ++ back ≡ replicate (length ms) blank_mark
+  blank_used left now ns a m is within kept free again =
+      let whole : left ≡ replicate (a + (m - a)) blank_mark = again ∙ ap (λ l. replicate a blank_mark ++ l) (kept ∙ free) ∙ replicate-append-replicate a (m - a) blank_mark in
+      joined (a + (m - a)) (omega (arith, is, within)) left whole
 
 -- a table that lists nothing yet
 pub pieced_none : {C : Type 0} (K : CountKind C) (t : Content (Segment C)) → t.used ≡ 0 → Pieced K [] t

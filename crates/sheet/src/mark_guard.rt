@@ -1,5 +1,5 @@
-//! The marks that a round has made: its end blanks them, whatever the round comes to.
-ghost use Rattle.std.specs.Prelude.{◌≡◌, length, replicate};
+//! The mark table during a round: its end blanks what the round used of it, whatever the round comes to.
+ghost use Rattle.std.specs.Prelude.{◌≡◌, ◌≤◌, ◌++◌, length, drop, replicate};
 ghost use Rattle.segm.specs.Marks.{blank_mark};
 
 use segm::line_mark::LineMark;
@@ -7,13 +7,16 @@ use table::places::blank_all;
 
 pub(crate) struct MarkGuard<'a> {
     pub(crate) marks: &'a mut [LineMark],
+    /// How many places may hold a mark, from the first on.
+    pub(crate) used: usize,
 }
 
 impl Drop for MarkGuard<'_> {
     fn drop(self)
-        ensures { self.exit.0.now ≡ replicate (length self.entry.marks.now) blank_mark }
+        ensures { self.entry.used ≤ length self.entry.marks.now → self.exit.0.now ≡ replicate self.entry.used blank_mark ++ drop self.entry.used self.entry.marks.now }
     {
-        let MarkGuard { marks } = self;
+        let MarkGuard { marks, used } = self;
+        let (marks, _) = marks.split_at_mut(used.min(marks.len()));
         blank_all(marks);
     }
 }

@@ -1,6 +1,10 @@
 //! One round over the tables of a sheet.
-ghost use Rattle.std.specs.Prelude.{◌≡◌, length, replicate, MatchResult};
+ghost use Rattle.std.specs.Prelude.{◌≡◌, ◌≤◌, length, take, drop, replicate, MatchResult};
+ghost use Rattle.segm.specs.MarkKind.{mark_kind};
 ghost use Rattle.segm.specs.Marks.{blank_mark};
+ghost use Rattle.rounds.specs.Pieces.{cut_from};
+ghost use Rattle.cutting.specs.Cutting.{Brings, Keeps};
+ghost use Rattle.table.specs.Listings.{Ordered};
 ghost use Rattle.history.specs.Rounds.{RoundDone, RoundRefused};
 ghost use Rattle.history.specs.Sheets.{Page};
 ghost use Rattle.marking.specs.Gathering.{use_of};
@@ -36,17 +40,35 @@ pub(crate) fn round_tables<C: WindingCount, F: Finder>(
     ensures capacity { (F.Finder.meaning finder.new).capacity ≡ (F.Finder.meaning finder.old).capacity }
 {
     let (usable, _) = marks.split_at_mut(marks.len().min(MOST_MARKS));
-    // Where it is refused, all places are blank again.
-    let answer = gather(edges.records(), finder, usable, radius)?;
-    let (used, _) = usable.split_at_mut(answer.marks);
-    let guard = MarkGuard { marks: used };
+    let mut guard = MarkGuard {
+        marks: usable,
+        used: 0,
+    };
+    let answer = gather(edges.records(), finder, guard.marks, radius)?;
+    guard.used = answer.marks;
     if !edges.has_room_for(answer.marks) {
         return Err(Fault::PiecesFull);
     }
     if answer.marks == 0 {
         return Ok(answer);
     }
-    cut_into(edges.records(), guard.marks, spare)?;
+    cut_at_first(edges.records(), guard.marks, answer.marks, spare)?;
     edges.take_over(spare).map_err(|_| Fault::PiecesFull)?;
     Ok(answer)
+}
+
+/// Cuts every edge at its marks, of which the first `used` places hold all, and joins all pieces into a table.
+fn cut_at_first<C: WindingCount>(
+    edges: &[Segment<C>],
+    marks: &mut [LineMark],
+    used: usize,
+    list: &mut OrderedTable<'_, Segment<C>>,
+) -> Result<(), Fault>
+    requires { used ≤ length marks.old }
+    ensures pieces { Ordered mark_kind (take used marks.old) → Brings C.WindingCount.kind (cut_from C.WindingCount.kind 0 (take used marks.old) edges.now) (content_of list.old) (content_of list.new) result }
+    ensures kept { Keeps (content_of list.old) (content_of list.new) }
+    ensures rest { drop used marks.new ≡ drop used marks.old }
+{
+    let (found, _) = marks.split_at_mut(used);
+    cut_into(edges, found, list)
 }
