@@ -6,13 +6,12 @@ use finder::all_pairs::AllPairs;
 use finder::filling::{extent_of, fill};
 use finder::finding::Finder;
 use finder::plain_edge::PlainEdge;
-use finder::taking::call_at_all;
+use finder::taking::{PairVisitor, take_all};
 use grid::fragment::Fragment;
 use grid::fragment_buffer::FragmentBuffer;
 use plane::touch_type::TouchType;
 use plane::x_segment::XSegment;
 use std::env::Args;
-use std::mem::replace;
 use std::time::Instant;
 
 /// The most edges that a finder takes.
@@ -97,29 +96,41 @@ struct Found {
     touches: usize,
 }
 
-/// Shows the edges to the finder, and counts the pairs that it gives and those that touch, each once, however often it comes.
+/// Shows the edges to the finder, and looks at every pair that it gives.
 fn walk<F: Finder>(edges: &[XSegment], finder: &mut F, seen: &mut [bool]) -> anyhow::Result<Found> {
     fill(edges, extent_of(edges), finder).map_err(|_| anyhow!("the finder refuses an edge"))?;
-    let mut touches: usize = 0;
-    let mut look = |i, j| {
-        if touch_anew(edges, i, j, seen) {
-            touches = touches.saturating_add(1);
-        }
+    let mut touching = Touching {
+        edges,
+        seen,
+        touches: 0,
     };
-    let pairs = call_at_all(finder, &mut look);
-    Ok(Found { pairs, touches })
+    let pairs = take_all(finder, &mut touching);
+    Ok(Found {
+        pairs,
+        touches: touching.touches,
+    })
 }
 
-/// Whether two edges touch, and were not seen to touch before. It is kept in `seen`, a place for each pair.
-fn touch_anew(edges: &[XSegment], i: usize, j: usize, seen: &mut [bool]) -> bool {
-    let (Some(first), Some(second)) = (edges.get(i), edges.get(j)) else {
-        return false;
-    };
-    if TouchType::of(first, second).is_none() {
-        return false;
-    }
-    match seen.get_mut(i.saturating_mul(MOST_EDGES).saturating_add(j)) {
-        Some(met) => !replace(met, true),
-        None => false,
+/// Counts the pairs that touch, each once, however often it comes.
+#[derive(Drop)]
+struct Touching<'a> {
+    edges: &'a [XSegment],
+    /// For each pair whether it was met, and touches.
+    seen: &'a mut [bool],
+    touches: usize,
+}
+
+impl PairVisitor for Touching<'_> {
+    ghost visits = { λ _ _ _. Unit {0} };
+
+    fn visit(&mut self, i: usize, j: usize) {
+        let (Some(first), Some(second)) = (self.edges.get(i), self.edges.get(j)) else {
+            return;
+        };
+        let place = i.saturating_mul(MOST_EDGES).saturating_add(j);
+        if TouchType::of(first, second).is_some() && place < self.seen.len() && !self.seen[place] {
+            self.seen[place] = true;
+            self.touches = self.touches.saturating_add(1);
+        }
     }
 }

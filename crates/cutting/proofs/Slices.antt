@@ -1,15 +1,14 @@
 -- A slice that pieces are joined into by a table over it.
-use Rattle.std.proofs.Common.{◌≡◌, ℕ, ◌+◌, ◌<◌, ◌≤◌, List, [], ◌∷◌, ◌++◌, length, take, replicate, Result, Ok, Err, IsErrAnd, MatchResult, min, sym, refl, ap, ◌∙◌, subst, arith}
+use Rattle.std.proofs.Common.{◌≡◌, ℕ, ◌+◌, ◌<◌, List, ◌++◌, length, Result, Ok, Err, IsErrAnd, MatchResult, min, sym, ap, ◌∙◌, subst, arith}
 use Rattle.std.proofs.lemmas.List.{length-take-le}
-use lib.ListN.{length-replicate}
-use Rattle.table.specs.Contents.{Content, content, records, unused, Sound}
+use Rattle.table.specs.Contents.{Content, records, unused, Sound}
 use Rattle.plane.specs.declared.fault.Fault.{Fault}
 use Rattle.plane.specs.declared.fault.Fault.TheVariants.{PiecesFull}
 use Rattle.segm.specs.Counts.{CountKind}
 use Rattle.segm.specs.SegmentKind.{segment_kind}
 use Rattle.segm.specs.Balance.{count_at, Counting}
 use Rattle.segm.specs.declared.segment.Segment.{Segment}
-use Rattle.cutting.specs.Cutting.{Pieced, PiecedIn, Brings, Keeps}
+use Rattle.cutting.specs.Cutting.{Pieced, PiecedIn, Brings}
 
 module _ {C : Type 0} (K : CountKind C) (more ps : List (Segment C)) (room : ℕ) (before : List (Segment C)) (p : PiecedIn K ps room before 0)
     (opened t : Content (Segment C)) (is : opened ≡ unused (segment_kind K) (length before) (min room (length before))) where

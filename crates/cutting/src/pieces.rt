@@ -1,5 +1,6 @@
 //! Edges cut at their marks, and the pieces joined into a table.
-ghost use Rattle.std.specs.Prelude.{◌≡◌, ◌==◌, ◌≤◌, [], ◌∷◌, ◌++◌, map, IfOk};
+ghost use Rattle.std.specs.Prelude.{◌≡◌, ◌==◌, ◌<◌, ◌≤◌, [], ◌∷◌, ◌++◌, map, length, Err, IfOk};
+ghost use Rattle.plane.specs.declared.fault.Fault.TheVariants.{PiecesFull};
 ghost use Rattle.std.specs.List.{prefix_len};
 ghost use Rattle.table.specs.Listings.{Ordered};
 ghost use Rattle.table.specs.Tables.{content_of, places_name};
@@ -15,7 +16,7 @@ use segm::winding::WindingCount;
 use table::ordered_table::OrderedTable;
 
 /// Cuts every edge at its marks, and joins all pieces into the first places of a slice, which are empty at first: at most `room` are
-/// used. The number of edges then; the marks are in order.
+/// used. The number of edges then; the marks are in order. Refused where there are more pieces than room, or more room than places.
 pub fn cut_edges<C: WindingCount>(
     edges: &[Segment<C>],
     marks: &mut [LineMark],
@@ -24,6 +25,7 @@ pub fn cut_edges<C: WindingCount>(
 ) -> Result<usize, Fault>
     ensures pieces { Ordered mark_kind marks.old → BringsIn C.WindingCount.kind (cut_from C.WindingCount.kind 0 marks.old edges.now) room list.old 0 list.new result }
     ensures within { IfOk result (λ n. n ≤ room) }
+    ensures short { length list.old < room → 0 < length edges.now → result ≡ Err PiecesFull }
 {
     // No slice has more room than places; where there is nothing to join, none is asked for.
     if room > list.len() && !edges.is_empty() {

@@ -1,9 +1,8 @@
 -- Taking pairs one by one: an invariant and a measure for every loop that does so.
 use Rattle.std.proofs.Common.{◌≡◌, ℕ, ◌+◌, ◌-◌, ◌^◌, ◌<◌, min, Bool, true, false, cond, ◌⊎◌, List, [], ◌∷◌, ◌++◌, length, Some, None, Option, sym, refl, ap, ◌∙◌, subst, inl, inr, append_assoc, append-nil, arith, length-append}
 use Rattle.std.proofs.lemmas.Bool.{both_ways}
-use Rattle.std.proofs.lemmas.Fn.{FoldsTo-push}
 use Rattle.finder.specs.Finders.{Pair, Meaning, Walks, Walk, MayCome, Next, first, rest, walking_on}
-use Rattle.finder.specs.Taking.{number_of, Took, Visits}
+use Rattle.finder.specs.Taking.{number_of, Took}
 use Rattle.finder.proofs.Members.{in_middle}
 
 -- how many pairs may still be taken
@@ -109,6 +108,3 @@ took_exactly walks before after n t f = let few = (begun walks before t.pairs f 
 
 pub number_more : (ps : List Pair) (p : Pair) (n : ℕ) → n ≡ number_of ps → min (n + 1) (2 ^ 64 - 1) ≡ number_of (ps ++ (p ∷ []))
 number_more ps p n e = simp length-append (omega (arith, e))
-
-pub visits_more : {S : Type 0} (visits : S → Pair → S → Type 0) (s t u : S) (ps : List Pair) (p : Pair) → Visits visits s ps t → visits t p u → Visits visits s (ps ++ (p ∷ [])) u
-visits_more visits s t u ps p h v = FoldsTo-push visits s ps t p u h v

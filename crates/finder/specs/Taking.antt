@@ -14,11 +14,7 @@ pub record Took (walks : Walks) (before after : Meaning) (n : ℕ) : Type 0 wher
   pub number : n ≡ number_of pairs
   pub leaves : after ≡ walking_on [] before
 
--- one visit after another
-abbrev pub Visits : {S : Type 0} → (S → Pair → S → Type 0) → S → List Pair → S → Type 0
-Visits visits s ps t = FoldsTo visits s ps t
-
 -- all pairs were taken, and each was visited in its turn
 pub record Visited {S : Type 0} (walks : Walks) (before after : Meaning) (n : ℕ) (visits : S → Pair → S → Type 0) (s t : S) : Type 0 where
   pub took : Took walks before after n
-  pub visited : Visits visits s took.pairs t
+  pub visited : FoldsTo visits s took.pairs t

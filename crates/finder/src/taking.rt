@@ -24,24 +24,19 @@ pub fn take_all<F: Finder, V: PairVisitor>(finder: &mut F, visitor: &mut V) -> u
     taken
 }
 
-/// Takes all pairs, calls `visit` at each in its turn, and tells how many there were.
-pub fn call_at_all<F: Finder, V: FnMut(usize, usize)>(finder: &mut F, visit: &mut V) -> usize
-    requires { V.IsAlwaysCallable visit.old }
-    ensures { Visited F.Finder.walks (F.Finder.meaning finder.old) (F.Finder.meaning finder.new) result (λ v p w. V.step v p.0 p.1 tt w) visit.old visit.new }
-{
-    // Stays: a loop of its own. A visitor that holds the closure would have to keep that it may always be called,
-    // and no ghost field can cite what the bound `FnMut` says of it.
-    let mut called: usize = 0;
-    while let Some((first, second)) = finder.next() {
-        visit(first, second);
-        called = called.saturating_add(1);
-    }
-    called
-}
-
 /// Takes all pairs, and tells how many there were.
 pub fn count_pairs<F: Finder>(finder: &mut F) -> usize
     ensures { Took F.Finder.walks (F.Finder.meaning finder.old) (F.Finder.meaning finder.new) result }
 {
-    call_at_all(finder, &mut |_i, _j| {})
+    take_all(finder, &mut Idle)
+}
+
+/// Does nothing with a pair.
+#[derive(Drop)]
+struct Idle;
+
+impl PairVisitor for Idle {
+    ghost visits = { λ _ _ _. Unit {0} };
+
+    fn visit(&mut self, _i: usize, _j: usize) {}
 }

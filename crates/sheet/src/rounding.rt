@@ -58,6 +58,7 @@ pub(crate) fn round_tables<C: WindingCount, F: Finder>(
 }
 
 /// Cuts every edge at its marks, of which the first `used` places hold all, and joins all pieces into a table.
+// A function of its own: where a part of the guard's places is lent, no proof knows afterwards what the others hold.
 fn cut_at_first<C: WindingCount>(
     edges: &[Segment<C>],
     marks: &mut [LineMark],

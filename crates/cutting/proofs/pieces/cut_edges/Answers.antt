@@ -1,6 +1,5 @@
 -- The table over the slice, and the slice when it ends.
-use Rattle.std.proofs.Common.{rules, Ok, Err, refl, sym, ◌∙◌}
-use Rattle.std.proofs.lemmas.Result.{err_from_is_err_and}
+use Rattle.std.proofs.Common.{rules}
 use Rattle.table.specs.Tables.{content_of}
 use Rattle.rounds.specs.Pieces.{cut_from}
 use Rattle.cutting.proofs.Slices.{slice_pieced, slice_refused}

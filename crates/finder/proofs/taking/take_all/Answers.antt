@@ -1,6 +1,7 @@
 use Rattle.std.proofs.Common.{[], ◌∷◌, ◌++◌, ◌∙◌}
+use Rattle.std.proofs.lemmas.Fn.{FoldsTo-push}
 use Rattle.finder.specs.Finders.{Pair}
-use Rattle.finder.proofs.Walking.{came_more, came_all, number_more, visits_more}
+use Rattle.finder.proofs.Walking.{came_more, came_all, number_more}
 use Rattle.finder.proofs.taking.take_all.Goals as goal
 
 pub loop-i-preserved : goal.loop-i-preserved
@@ -11,7 +12,7 @@ loop-i-preserved g c =
     record {
       done = v.done ++ (p ∷ []);
       came = came_more F.walks (F.meaning c.loop-i.finder) (F.meaning c.next.new.self) c.next.result c.next.ensures (F.meaning c.args.finder.now) v.done v.came p c.in-Some.is;
-      visited = visits_more g.V.PairVisitor.visits c.args.visitor.now c.loop-i.visitor c.visit.new.self v.done p v.visited c.visit.ensures;
+      visited = FoldsTo-push _ c.args.visitor.now v.done c.loop-i.visitor p c.visit.new.self v.visited c.visit.ensures;
       counted = c.saturating_add-taken.ensures ∙ number_more v.done p c.loop-i.taken v.counted;
     }
 

@@ -1,6 +1,7 @@
 use Rattle.std.proofs.Common.{◌≡◌, List}
+use Rattle.std.specs.List.{FoldsTo}
 use Rattle.finder.specs.Finders.{Pair}
-use Rattle.finder.specs.Taking.{number_of, Visits}
+use Rattle.finder.specs.Taking.{number_of}
 use Rattle.finder.proofs.Walking.{Came, pairs_left}
 use Rattle.finder.proofs.taking.take_all.Given as goal
 
@@ -11,7 +12,7 @@ invariant-loop-i g l =
     record {
       done : List Pair;
       came : Came F.walks (F.meaning l.initial.finder) (F.meaning l.finder) done;
-      visited : Visits g.V.PairVisitor.visits l.initial.visitor done l.visitor;
+      visited : FoldsTo g.V.PairVisitor.visits l.initial.visitor done l.visitor;
       counted : l.taken ≡ number_of done;
     }
 

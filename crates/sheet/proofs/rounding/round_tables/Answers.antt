@@ -1,10 +1,10 @@
 -- What each way through a round leaves and answers.
-use Rattle.std.proofs.Common.{◌≡◌, ◌+◌, ◌≤◌, [], length, take, sym, refl, ap, ◌∙◌, subst, arith}
+use Rattle.std.proofs.Common.{◌≡◌, ◌+◌, ◌≤◌, [], length, take, sym, refl, ap, ◌∙◌, arith}
 use Rattle.std.proofs.lemmas.Result.{err_from_is_err_and}
 use Rattle.std.proofs.lemmas.Bool.{leb-true}
 use Rattle.table.specs.Contents.{records}
 use Rattle.table.specs.Listings.{Ordered}
-use Rattle.table.specs.Tables.{content_of, records_of}
+use Rattle.table.specs.Tables.{content_of}
 use Rattle.segm.specs.MarkKind.{mark_kind}
 use Rattle.rounds.specs.Pieces.{cut_from}
 use Rattle.history.specs.Sheets.{mark_places}
